@@ -1,0 +1,58 @@
+-- What the answers of the code stand for: the numbers and values of the rules for each case.
+use mathlib.Core.List.{List}
+use Prim.Native.Nat.{ℕ}
+use lib.ListN.{take}
+use Rattle.rules.specs.Limits.{textLimit, variableLimit, stackLimit, forLimit, codeLimit, imageLimit, memoryNumbers, memoryBytes, unboundedMark}
+use Rattle.rules.specs.Meaning.{Table}
+use Rattle.rules.specs.Run.{Report as Reported, Filling}
+use Rattle.rules.specs.Compile.{Answer, accepted, refused}
+use Rattle.rules.specs.declared.Compiled.{Compiled}
+use Rattle.rules.specs.declared.Compiled.the-variants.{Accepted, Refused}
+use Rattle.rules.specs.declared.Outcome.{Outcome}
+use Rattle.rules.specs.declared.Outcome.the-variants.{Done, Spent, Range, Divide, BadImage, BadTable, BadCode}
+use Rattle.rules.specs.declared.Report.{Report}
+use Rattle.rules.specs.declared.Filled.{Filled}
+use Rattle.rules.specs.declared.Filled.the-variants.{Done as FillDone, BadImage as FillBadImage, BadTable as FillBadTable}
+use Rattle.rules.specs.declared.Limits.{Limits}
+
+-- compiling: the answer, with the image buffer as it is afterwards, whose first bytes are the image
+abbrev pub said : Compiled → List ℕ → Answer
+said (Accepted image code depth worst) buffer = accepted (take image buffer) code depth worst
+said (Refused number place) buffer = refused number place
+
+-- running: DONE, SPENT, RANGE, DIVIDE, and 23 to 25
+abbrev pub outcomeNumber : Outcome → ℕ
+outcomeNumber Done = 0
+outcomeNumber Spent = 20
+outcomeNumber Range = 21
+outcomeNumber Divide = 22
+outcomeNumber BadImage = 23
+outcomeNumber BadTable = 24
+outcomeNumber BadCode = 25
+
+-- a run's report, with the table as it is afterwards
+abbrev pub reported : Report → Table → Reported
+reported r t = record { outcome = outcomeNumber (r .outcome); ticks = r .ticks; instructions = r .instructions; offset = r .offset; table = t }
+
+-- filling: done, 23, or 24
+abbrev pub fillNumber : Filled → ℕ
+fillNumber FillDone = 0
+fillNumber FillBadImage = 23
+fillNumber FillBadTable = 24
+
+abbrev pub filled : Filled → Table → Filling
+filled a t = record { answer = fillNumber a; table = t }
+
+-- the published limits
+abbrev pub published : Limits
+published = record {
+  text = textLimit;
+  variables = variableLimit;
+  stack = stackLimit;
+  «held_finals» = forLimit;
+  code = codeLimit;
+  image = imageLimit;
+  «memory_numbers» = memoryNumbers;
+  «memory_bytes» = memoryBytes;
+  unbounded = unboundedMark;
+}
