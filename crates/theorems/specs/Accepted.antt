@@ -16,11 +16,11 @@ use Rattle.theorems.specs.Levels.{forsL}
 use Rattle.theorems.specs.TicksFall.{kOf, execL-le}
 use Rattle.theorems.specs.Fields.{FitL, central}
 use Rattle.theorems.specs.WorstCase.{WfL, okL, unFin}
-use Rattle.theorems.specs.Typing.{Valid, TyL, Real, rSpent, rRange, rDivide, Snd, sHalt, sndL}
+use Rattle.theorems.specs.Typing.{Valid, TyL, Real, rSpent, rRange, rDivide, Snd, sGo, sLeft, sHalt, sndL}
 use Rattle.theorems.specs.Instructions.{bound}
-use Rattle.theorems.specs.StackLimit.{run-like, per-tick}
+use Rattle.theorems.specs.StackLimit.{run-like}
 
--- what an accepted text meets
+-- what an accepted text meets: fields hold their operands, code, nesting and depth keep their limits, types are right, and rules 11 and 15
 pub record Accepted (Γ : L.List Ty) (l : List) : Type 0 where
   pub fits : FitL l
   pub short : sizeL l < 8192
@@ -67,16 +67,12 @@ module _ (Γ : L.List Ty) (l : List) (a : Accepted Γ l) (t : Table) (B : ℕ) (
       by (left t k) h q = let z : ran .left ≡ k = cc in omega arith
       by (halt o t k) h q = let z : ran .left ≡ k = cc in omega arith
 
-  pub left-le : ran .left ≤ B
+  -- 5. a valid table stays valid
+  pub keeps-valid : Valid Γ (ran .tab)
   unfolding view meaning ansOf
-  left-le = by (execL Γ l t B) (execL-le Γ l t B .le) same
+  keeps-valid = by (execL Γ l t B) (sndL Γ l (a .typed) t B v) same
     where
-      by : (o : Out) → kOf o ≤ B → view ran ≡ ansOf o → ran .left ≤ B
-      by (go t k) h q = let z : ran .left ≡ k = cc in omega arith
-      by (left t k) h q = let z : ran .left ≡ k = cc in omega arith
-      by (halt o t k) h q = let z : ran .left ≡ k = cc in omega arith
-
-  -- 5. instructions completed: at most (ticks + 1) times the bytes of code
-  pub instructions : ran .count ≤ (B - ran .left + 1) * length (codeOf l)
-  unfolding codeIn
-  instructions = let q = left-le in per-tick (length (codeOf l)) (ran .left) B (B - ran .left) (ran .count) (omega arith) (bound (codeIn Γ (codeOf l) 32) B (start t))
+      by : (o : Out) → Snd Γ o → view ran ≡ ansOf o → Valid Γ (ran .tab)
+      by (go t k) (sGo w) q = let z : t ≡ ran .tab = cc in rw z at w
+      by (left t k) (sLeft w) q = let z : t ≡ ran .tab = cc in rw z at w
+      by (halt o t k) (sHalt r w) q = let z : t ≡ ran .tab = cc in rw z at w

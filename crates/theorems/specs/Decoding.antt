@@ -14,9 +14,9 @@ use Rattle.rules.specs.Numbers.{Ty}
 use Rattle.rules.specs.Core.{Neg, Not, Mul, Div, Mod, Add, Sub, Lt, Gt, Le, Ge, Eq, Ne, And, Xor, Or, List}
 use Rattle.rules.specs.Codes.{Instr, TICK, CONST, LOAD, STORE, UN, BIN, JUMP, JZ, JNZ, SPAN, DROP, HOLD, FIRST, NEXT, HALT, BAD, lengthOf, get2, get4, decode, enc, decodeOp, encAll, readers, unCode, binCode, get1}
 use Rattle.rules.specs.Machine.{codeIn}
-use Rattle.theorems.specs.Running.{ltb-t, ltb-f, lt-ltb}
 use Rattle.theorems.specs.Expressions.{At}
 use Rattle.rules.specs.Bytes.{of2, of4, ofU, toU, put2, put4}
+use Rattle.theorems.specs.Tests.{ltb-t, lt-ltb, ltb-f}
 
 -- what an instruction's operands must meet
 abbrev pub Fits : Instr → Type 0

@@ -13,7 +13,8 @@ use Rattle.rules.specs.Codes.{Instr, CONST, LOAD, UN, BIN, lengthOf}
 use Rattle.rules.specs.Machine.{State, state, on, end, bump, view, pushE, Code, push, pushR, act, step, finish, run}
 use Rattle.rules.specs.Translation.{sizeE, codeE}
 use Rattle.rules.specs.Depth.{height}
-use Rattle.theorems.specs.Running.{lt-ltb, step-at, run-on, run-end}
+use Rattle.theorems.specs.Running.{step-at, run-on, run-end}
+use Rattle.theorems.specs.Tests.{lt-ltb}
 
 -- the instructions stand in the code from p on
 abbrev pub At : Code → ℕ → L.List Instr → Type 0

@@ -7,7 +7,8 @@ use lib.Dec.{ltb}
 use Rattle.rules.specs.Core.{for}
 use Rattle.rules.specs.Meaning.{Stop, done, spent, range, divide, ill, left, tick}
 use Rattle.rules.specs.Machine.{State, state, Step, on, tk, end, Ran, bump, Code, step, finish, adv, run, seg}
-use Rattle.theorems.specs.Running.{ltb-t, ltb-f, pcOf, Enough, far, atTick, enough-zero, enough-suc, seg-eq, all}
+use Rattle.theorems.specs.Running.{pcOf, Enough, far, atTick, enough-zero, enough-suc, seg-eq, all}
+use Rattle.theorems.specs.Tests.{ltb-t, ltb-f}
 
 module _ (c : Code) where
   -- counted, with `len` for each tick left

@@ -1,5 +1,7 @@
+pub mod Tests
 pub mod Running
 pub mod TicksFall
+pub mod Total
 pub mod Keeping
 pub mod Levels
 pub mod Expressions
@@ -9,8 +11,10 @@ pub mod Instructions
 pub mod StackLimit
 pub mod Decoding
 pub mod Fields
+pub mod Passes
 pub mod WorstCase
 pub mod Typing
+pub mod ValidTable
 pub mod Accepted
 pub mod Sizes
 pub mod WellTyped

@@ -12,22 +12,10 @@ use Rattle.rules.specs.Meaning.{Table, Stop, spent, ill, Ev, val, stop, unop, b
 use Rattle.rules.specs.Numbers.{ofBool, isZero, between}
 use Rattle.rules.specs.Codes.{Instr, TICK, CONST, LOAD, STORE, UN, BIN, JUMP, JZ, JNZ, SPAN, DROP, HOLD, FIRST, NEXT, HALT, BAD}
 use Rattle.rules.specs.Machine.{State, state, Step, on, tk, end, Ran, bump, isTick, pushE, Code, okJump, jumpTo, push, pushR, firstOn, nextOn, act, step, finish, adv, seg, run}
+use Rattle.theorems.specs.Tests.{ltb-t, lt-ltb, ltb-f}
 
 abbrev pub pcOf : State → ℕ
 pcOf (state p s h t) = p
-
-pub ltb-t : (m n : ℕ) → ltb m n ≡ true → m < n
-ltb-t m n e = ltb→lt m n (rw e tt)
-
-pub ltb-f : (m n : ℕ) → ltb m n ≡ false → n ≤ m
-ltb-f m n e = nltb→le m n (rw e tt)
-
-pub T-true : (b : Bool) → T b → b ≡ true
-T-true true h = refl
-T-true false h = elim h [ ]
-
-pub lt-ltb : (m n : ℕ) → m < n → ltb m n ≡ true
-lt-ltb m n h = T-true (ltb m n) (lt→ltb m n h)
 
 module _ (c : Code) where
   -- where a step leads: on, or back to a TICK

@@ -13,8 +13,9 @@ use Rattle.rules.specs.Core.{List, for}
 use Rattle.rules.specs.Meaning.{Table, Stop, done, spent, range, divide, ill, Ev, val, stop, load, loadD}
 use Rattle.rules.specs.Codes.{Instr, TICK, CONST, LOAD, STORE, UN, BIN, JUMP, JZ, JNZ, SPAN, DROP, HOLD, FIRST, NEXT, HALT, BAD}
 use Rattle.rules.specs.Machine.{State, state, Step, on, tk, end, Ran, bump, isTick, Code, okJump, jumpTo, push, pushR, firstOn, nextOn, act, step, finish, adv, run, seg}
-use Rattle.theorems.specs.Running.{ltb-t, lt-ltb, step-tk, step-fine, Fwd, ahead, back, isTick→, pcOf}
+use Rattle.theorems.specs.Running.{step-tk, step-fine, Fwd, ahead, back, isTick→, pcOf}
 use Rattle.theorems.specs.Instructions.{step-in}
+use Rattle.theorems.specs.Tests.{ltb-t, lt-ltb}
 
 -- the same code under another stack limit
 abbrev pub under : Code → ℕ → Code
@@ -156,7 +157,3 @@ module _ (c : Code) where
       by true false = omega (arith, b)
       by false true = omega arith
       by false false = omega (arith, b)
-
--- instructions completed against ticks used
-pub per-tick : (n l k u c : ℕ) → k ≡ u + l → c + l * n ≤ (k + 1) * n → c ≤ (u + 1) * n
-per-tick n l k u c e h = let h′ : c + l * n ≤ (u + l + 1) * n = rw e at h in omega arith

@@ -16,10 +16,11 @@ use Rattle.rules.specs.Codes.{Instr, TICK, STORE, JUMP, JZ, JNZ, SPAN, DROP, HO
 use Rattle.rules.specs.Machine.{state, on, end, bump, view, isTick, Code, okJump, jumpTo, firstOn, nextOn, act, step, finish, adv}
 use Rattle.rules.specs.Translation.{sizeE, codeE, sizeLb, codeLb, jlen, jmp, sizeS, sizeL, sizeB, sizeG, codeS, codeL, codeB, codeG}
 use Rattle.rules.specs.Depth.{height, depthS, depthL, depthB, depthG}
-use Rattle.theorems.specs.Running.{lt-ltb, step-at, step-tk, run-spent, run-tick}
+use Rattle.theorems.specs.Running.{step-at, step-tk, run-spent, run-tick}
 use Rattle.theorems.specs.Levels.{forsS, forsL, forsB, forsG}
 use Rattle.theorems.specs.Expressions.{At, onA, see, see-on, see-end, see-act, restE, simE, push-ok}
 use Rattle.theorems.specs.TicksFall.{AtMost, execL-le}
+use Rattle.theorems.specs.Tests.{lt-ltb}
 
 -- two lists of held finals agree below level n
 pub record Agree (n : ℕ) (h h′ : L.List ℤ) : Type 0 where

@@ -12,8 +12,8 @@ use lib.Seq.{getD-set-same, getD-set-other}
 use Rattle.rules.specs.Numbers.{Ty, bool, dint, holds, ofBool, eqZ, isZero, isDint, between, low, high}
 use Rattle.rules.specs.Core.{Un, Neg, Not, Bin, Mul, Div, Mod, Add, Sub, Lt, Gt, Le, Ge, Eq, Ne, And, Xor, Or, Expr, num, flag, var, un, bin, pls, par, Stmt, List, Brs, Grps, assign, if, case, for, while, repeat, exit, nil, cons, none, els, elsif, other, grp, result}
 use Rattle.rules.specs.Meaning.{Table, Stop, spent, range, divide, binop, Ev, val, stop, load, loadD, storable, eval, bindE, unop, fit, passes, Out, go, left, halt, tick, onE, onGo, store, inLabels, onPass, loopW, loopR, loopF, exec, execL, execB, execG, logic}
-use Rattle.theorems.specs.Running.{ltb-t, ltb-f, lt-ltb, T-true}
-use Rattle.theorems.specs.WorstCase.{le-diff, not-lt, ltb-no}
+use Rattle.theorems.specs.Passes.{le-diff, not-lt}
+use Rattle.theorems.specs.Tests.{ltb-no, T-true, and-l, and-r, lt-ltb, ltb-t, ltb-f}
 
 abbrev pub InTy : Bin → Ty → Type 0
 InTy Mul s = s ≡ dint
@@ -135,14 +135,6 @@ leZ-trans a b d p q =
     joined m n e f =
         let g : d ≡ a +ℤ pos (m + n) = f ∙ ap (λ j. j +ℤ pos n) e ∙ +ℤ-assoc a (pos m) (pos n) in
         rw g (le-plus a (m + n))
-
-and-l : (a b : Bool) → and a b ≡ true → a ≡ true
-and-l true b e = refl
-and-l false b e = cc
-
-and-r : (a b : Bool) → and a b ≡ true → b ≡ true
-and-r true b e = e
-and-r false b e = cc
 
 range-mk : (τ : Ty) (z : ℤ) → leZ (low τ) z ≡ true → leZ z (high τ) ≡ true → holds τ z ≡ true
 unfolding holds between

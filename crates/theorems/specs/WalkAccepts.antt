@@ -22,13 +22,7 @@ use Rattle.theorems.specs.WorstCase.{WfS, WfL, WfB, WfG}
 use Rattle.theorems.specs.Fields.{Z32, FitE, FitLb, FitS, FitL, FitB, FitG}
 use Rattle.theorems.specs.Typing.{HasTy, TyS, TyL, TyB, TyG}
 use Rattle.theorems.specs.WellTyped.{inv, ok-inj, needed, same-ty, known-in, well}
-
-le-of : (m n : ℕ) → leb m n ≡ true → m ≤ n
-le-of m n e = leb→le m n (rw e tt)
-
-not-true : (b : Bool) → not b ≡ true → b ≡ false
-not-true true e = let z : _≡_ {A = ℕ} 0 1 = cc in absurd (omega arith)
-not-true false e = refl
+use Rattle.theorems.specs.Tests.{leb-t, not-true, eq-eqb}
 
 -- Constants
 
@@ -42,7 +36,7 @@ exact-fits : (c : Con) (u : Unit {0}) → exact c ≡ ok u → Z32 (conValue c)
 unfolding exact conValue ofBool
 exact-fits (conBool p true) u e = omega arith
 exact-fits (conBool p false) u e = omega arith
-exact-fits (conInt p below q v) u e = z32 below v (le-of v (largest below) (needed _ _ _ _ e)) p q
+exact-fits (conInt p below q v) u e = z32 below v (leb-t v (largest below) (needed _ _ _ _ e)) p q
 
 labels-fit : (ls : L.List Label) (k : Labels) → labels ls ≡ ok k → FitLb k
 unfolding labels span
@@ -111,13 +105,6 @@ free-tail s taken i h = by (eqb i s) refl
     by true w = let q : true ≡ false = simp w at h in let z : _≡_ {A = ℕ} 0 1 = cc in absurd (omega arith)
     by false w = simp w at h
 
-eq-eqb : (i s : ℕ) → i ≡ s → eqb i s ≡ true
-eq-eqb i s e = rw e (is (eqb s s) (eqb-refl s))
-  where
-    is : (b : Bool) → T b → b ≡ true
-    is true t = refl
-    is false t = absurd t
-
 free-head : (s : ℕ) (taken : L.List ℕ) (i : ℕ) → Free (s ∷ taken) i → i ≢ s
 unfolding member
 free-head s taken i h e =
@@ -138,7 +125,7 @@ module _ (vs : L.List Var) (few : length (types (nameless vs)) ≤ 64) where
       subst (λ y. FitE (y .core)) (ok-inj (a .2)) (omega arith)
   fits (whole p v) x e =
       let a = inv (need (leb v (largest false)) 4 p) _ e in
-      let h = le-of v (largest false) (needed _ _ _ _ (a .1)) in
+      let h = leb-t v (largest false) (needed _ _ _ _ (a .1)) in
       subst (λ y. FitE (y .core)) (ok-inj (a .2)) (omega arith)
   fits (truth p b) x e = subst (λ y. FitE (y .core)) (ok-inj e) tt
   fits (paren p c) x e =
@@ -170,7 +157,7 @@ module _ (vs : L.List Var) (few : length (types (nameless vs)) ≤ 64) where
       subst (λ y. Right t more y) (ok-inj (d .2)) (record {
         ty = rw q at (well vs e (a .0) (a .1));
         fit = fits e (a .0) (a .1);
-        low = le-of _ 32 (needed _ _ _ _ (d .1));
+        low = leb-t _ 32 (needed _ _ _ _ (d .1));
       })
 
   record Into (taken : L.List ℕ) (s : Slot) : Type 0 where

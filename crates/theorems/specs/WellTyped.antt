@@ -16,6 +16,7 @@ use Rattle.rules.specs.Syntax.{Name, Sign, minus, plus, inverse, Exp, named, wh
 use Rattle.rules.specs.Walk.{Slot, find, known, knownAt, Typed, typed, takes, signTy, signCore, expression, largest, Var, nameless}
 use Rattle.rules.specs.Core.{types}
 use Rattle.theorems.specs.Typing.{HasTy, InTy}
+use Rattle.theorems.specs.Tests.{and-l, and-r}
 
 -- an answer of two steps has both
 pub inv : {A B : Type 0} (m : Res A) (f : A → Res B) {b : B} → _>>=_ m f ≡ ok b → (a : A) × (m ≡ ok a) × (f a ≡ ok b)
@@ -30,10 +31,6 @@ pub needed : (t : Bool) (n p : ℕ) (u : Unit {0}) → need t n p ≡ ok u → t
 unfolding need
 needed true n p u e = refl
 needed false n p u e = let z : _≡_ {A = ℕ} 0 1 = cc in absurd (omega arith)
-
-pub both : (a b : Bool) → a && b ≡ true → (a ≡ true) × (b ≡ true)
-both true b e = (refl, e)
-both false b e = let z : _≡_ {A = ℕ} 0 1 = cc in absurd (omega arith)
 
 pub same-ty : (s t : Ty) → sameTy s t ≡ true → s ≡ t
 unfolding sameTy
@@ -140,8 +137,11 @@ module _ (vs : L.List Var) where
   well (binary p o c d) x e =
       let a = inv (expression vs c) _ e in
       let b = inv (expression vs d) _ (a .2) in
-      let g = inv (need (sameTy (a .0 .type) (takes o (a .0 .type)) && sameTy (b .0 .type) (takes o (a .0 .type))) 8 p) _ (b .2) in
-      let h = both _ _ (needed _ _ _ _ (g .1)) in
-      let q = same-ty _ _ (h .0) in
-      let r = same-ty _ _ (h .1) in
-      subst (λ y. Good y) (ok-inj (g .2)) (refl, (a .0 .type, takes-in o _ q, well c (a .0) (a .1), rw (r ∙ sym q) at (well d (b .0) (b .1))))
+      let t = takes o (a .0 .type) in
+      let l = sameTy (a .0 .type) t in
+      let r = sameTy (b .0 .type) t in
+      let g = inv (need (l && r) 8 p) _ (b .2) in
+      let h = needed (l && r) 8 p (g .0) (g .1) in
+      let q = same-ty (a .0 .type) t (and-l l r h) in
+      let u = same-ty (b .0 .type) t (and-r l r h) in
+      subst (λ y. Good y) (ok-inj (g .2)) (refl, (a .0 .type, takes-in o (a .0 .type) q, well c (a .0) (a .1), rw (u ∙ sym q) at (well d (b .0) (b .1))))

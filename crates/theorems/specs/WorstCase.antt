@@ -14,10 +14,11 @@ use lib.Seq.{getD-set-same, getD-set-other}
 use Rattle.rules.specs.Numbers.{Ty, dint, isZero, isDint, holds}
 use Rattle.rules.specs.Core.{Neg, Not, Expr, num, flag, var, un, bin, pls, par, Stmt, List, Brs, Grps, assign, if, case, for, while, repeat, exit, nil, cons, none, els, elsif, other, grp}
 use Rattle.rules.specs.Meaning.{Table, Stop, range, Ev, val, stop, load, loadD, storable, eval, bindE, unop, fit, passes, Out, go, left, halt, tick, onE, onGo, store, inLabels, onPass, loopF, exec, execL, execB, execG}
-use Rattle.theorems.specs.Running.{ltb-t, ltb-f, lt-ltb}
 use Rattle.theorems.specs.TicksFall.{kOf}
 use Rattle.theorems.specs.Keeping.{tabOf, StoresL, execL-i}
 use Rattle.rules.specs.Worst.{Bound, fin, passCount, conOf, negLit, litOf, addW, maxW, forW, worstS, unb, toNat, lit, nolit, Lit, worstB, worstG, worstL}
+use Rattle.theorems.specs.Tests.{ltb-t, ltb-no, lt-ltb, ltb-f, and-l}
+use Rattle.theorems.specs.Passes.{count-one, count-more}
 
 -- rules 11 and 15: a FOR's variable is not stored to in its body; its step is not 0
 abbrev mutual
@@ -70,10 +71,6 @@ onE-w : {w : ℕ} (v : Ev) (t : Table) (k : ℕ) {g : ℤ → Out} → ((x : ℤ
 unfolding onE
 onE-w (val x) t k f = f x refl
 onE-w (stop o) t k f = record { within = omega arith }
-
-and-l : (a b : Bool) → _&&_ a b ≡ true → a ≡ true
-and-l true b e = refl
-and-l false b e = cc
 
 store-w : {w : ℕ} (Γ : L.List Ty) (i : ℕ) (v : ℤ) (t : Table) (k : ℕ) {g : Table → Out} → ((u : Table) → i < length t → u ≡ set t i v → Within w k (g u)) → Within w k (store Γ i v t k g)
 unfolding store storable
@@ -129,70 +126,6 @@ module _ (Γ : L.List Ty) (v : ℕ) (d y : ℤ) (w : ℕ) (B : Table → ℕ →
       let m = rw zx at (more z c) in
       let o = rw zx at (one (z +ℤ d) c) in
       loopF-w f (set u v (z +ℤ d)) i (z +ℤ d) n (getD-set-same u v (z +ℤ d) (pos 0) (lv .1)) (omega arith) (rw zx (omega arith)))))))
-
--- the passCount of passes, by differences
-pub ltb-no : (m n : ℕ) → n ≤ m → ltb m n ≡ false
-ltb-no m n h = by (ltb m n) refl
-  where
-    by : (d : Bool) → ltb m n ≡ d → d ≡ false
-    by true e = let q = ltb-t m n e in absurd (omega arith)
-    by false e = refl
-
-subℕ-ge : (a b : ℕ) → b ≤ a → subℕ a b ≡ pos (a - b)
-subℕ-ge a b h = rw (ltb-no a b h)
-
-subℕ-lt : (a b : ℕ) → a < b → subℕ a b ≡ negsuc (b - suc a)
-subℕ-lt a b h = rw (lt-ltb a b h)
-
-pub le-diff : (a b : ℤ) → ltZ b a ≡ false → (m : ℕ) × (b ≡ a +ℤ pos m)
-le-diff (pos a) (pos b) e = let h = ltb-f b a e in (b - a, ap pos (omega arith))
-le-diff (pos a) (negsuc b) e = let z : _≡_ {A = ℕ} 0 1 = cc in absurd (omega arith)
-le-diff (negsuc a) (pos b) e = (b + suc a, sym (subℕ-ge (b + suc a) (suc a) (omega arith) ∙ ap pos (omega arith)))
-le-diff (negsuc a) (negsuc b) e = let h = ltb-f a b e in (a - b, sym (subℕ-lt (a - b) (suc a) (omega arith) ∙ ap negsuc (omega arith)))
-
-pub not-lt : (x : ℤ) (m : ℕ) → ltZ (x +ℤ pos m) x ≡ false
-not-lt (pos a) m = ltb-no (a + m) a (omega arith)
-not-lt (negsuc a) m = by (ltb m (suc a)) refl
-  where
-    by : (d : Bool) → ltb m (suc a) ≡ d → ltZ (subℕ m (suc a)) (negsuc a) ≡ false
-    by true e = let h = ltb-t m (suc a) e in rw (subℕ-lt m (suc a) h) (ltb-no a (suc a - suc m) (omega arith))
-    by false e = let h = ltb-f m (suc a) e in rw (subℕ-ge m (suc a) h)
-
-diff : (x : ℤ) (m : ℕ) → (x +ℤ pos m) -ℤ x ≡ pos m
-diff x m = rw (+ℤ-comm x (pos m)) (+ℤ-negℤ-cancel (pos m) x)
-
-count-up : (x : ℤ) (n m : ℕ) → passCount x (x +ℤ pos m) (pos n) ≡ m / n + 1
-unfolding passCount toNat
-count-up x n m = rw (not-lt x m, passCount) (rw (diff x m))
-
-count-down : (y : ℤ) (r m : ℕ) → passCount (y +ℤ pos m) y (negsuc r) ≡ m / suc r + 1
-unfolding passCount toNat
-count-down y r m = rw (not-lt y m, passCount) (rw (diff y m))
-
-count-one : (d y x : ℤ) → passes d x y ≡ false → 1 ≤ passCount x y d
-unfolding passes
-count-one (pos n) y x e = let q = le-diff x y e in rw (q .1, count-up x n (q .0)) (omega arith)
-count-one (negsuc r) y x e = let q = le-diff y x e in rw (q .1, count-down y r (q .0)) (omega arith)
-
-more-up : (y x : ℤ) (n m : ℕ) → y ≡ (x +ℤ pos (suc n)) +ℤ pos m → suc (passCount (x +ℤ pos (suc n)) y (pos (suc n))) ≤ passCount x y (pos (suc n))
-more-up y x n m q =
-    let two : y ≡ x +ℤ pos (m + suc n) = q ∙ +ℤ-assoc x (pos (suc n)) (pos m) ∙ ap (λ j. x +ℤ pos j) (omega arith) in
-    let a : passCount (x +ℤ pos (suc n)) y (pos (suc n)) ≡ m / suc n + 1 = ap (λ j. passCount (x +ℤ pos (suc n)) j (pos (suc n))) q ∙ count-up (x +ℤ pos (suc n)) (suc n) m in
-    let b : passCount x y (pos (suc n)) ≡ (m + suc n) / suc n + 1 = ap (λ j. passCount x j (pos (suc n))) two ∙ count-up x (suc n) (m + suc n) in
-    omega (arith, a, b, add-div-right m {k = suc n} (omega arith))
-
-more-down : (y x : ℤ) (r m : ℕ) → x +ℤ negsuc r ≡ y +ℤ pos m → suc (passCount (x +ℤ negsuc r) y (negsuc r)) ≤ passCount x y (negsuc r)
-more-down y x r m q =
-    let two : x ≡ y +ℤ pos (m + suc r) = sym (-ℤ-+ℤ-cancel x (pos (suc r))) ∙ ap (λ j. j +ℤ pos (suc r)) q ∙ +ℤ-assoc y (pos m) (pos (suc r)) in
-    let a : passCount (x +ℤ negsuc r) y (negsuc r) ≡ m / suc r + 1 = ap (λ j. passCount j y (negsuc r)) q ∙ count-down y r m in
-    let b : passCount x y (negsuc r) ≡ (m + suc r) / suc r + 1 = ap (λ j. passCount j y (negsuc r)) two ∙ count-down y r (m + suc r) in
-    omega (arith, a, b, add-div-right m {k = suc r} (omega arith))
-
-count-more : (d y x : ℤ) → d ≢ pos 0 → passes d (x +ℤ d) y ≡ false → suc (passCount (x +ℤ d) y d) ≤ passCount x y d
-unfolding passes
-count-more (pos zero) y x n e = absurd (n refl)
-count-more (pos (suc n)) y x nz e = let q = le-diff (x +ℤ pos (suc n)) y e in more-up y x n (q .0) (q .1)
-count-more (negsuc r) y x nz e = let q = le-diff y (x +ℤ negsuc r) e in more-down y x r (q .0) (q .1)
 
 -- a literal bound has its value, if any
 con-val : (e : Expr) (z x : ℤ) (t : Table) → conOf e ≡ lit z → eval e t ≡ val x → x ≡ z
@@ -269,7 +202,7 @@ ok-for Γ v a e s l (lit p) (lit q) (fin w) ea ee st nz h t k = okFin {w = 1 + p
     let zx : z ≡ x = sym (load-val Γ u v s z ez .0) ∙ now in
     ite-w (passes s z y) (λ c. record { within = omega arith }) (λ c.
     let one = count-one s y x (rw zx at c) in
-    rw (← xp, ← yq) (loopF-w Γ v s y w (λ t k. execL Γ l t k) (λ t k. unFin (h t k)) (kept Γ v l st) (λ z. passCount z y s) (λ z. count-one s y z) (λ z. count-more s y z nz)
+    rw (← xp, ← yq) (loopF-w Γ v s y w (λ t k. execL Γ l t k) (λ t k. unFin (h t k)) (kept Γ v l st) (λ z. passCount z y s) (λ z. count-one s y z) (λ z e. let q = count-more s y z nz e in omega arith)
     j u j x (passCount x y s) now one (omega arith))))))))))
 ok-for Γ v a e s l (lit p) (lit q) unb ea ee st nz h t k = okUnb
 ok-for Γ v a e s l (lit p) nolit b ea ee st nz h t k = okUnb
