@@ -57,7 +57,7 @@ unfolding Rattle.rules.specs.Machine.bump Rattle.rules.specs.Mac
 openedMachine = tt
 
 unfoldable pub openedRun : Unit {0}
-unfolding Rattle.rules.specs.Run.number Rattle.rules.specs.Run.reportOf Rattle.rules.specs.Run.refusedRun Rattle.rules.specs.Run.allHold Rattle.rules.specs.Run.valid Rattle.rules.specs.Run.runLoaded Rattle.rules.specs.Run.runImage Rattle.rules.specs.Run.fillLoaded Rattle.rules.specs.Run.fillImage
+unfolding Rattle.rules.specs.Run.number Rattle.rules.specs.Run.reportOf Rattle.rules.specs.Run.refusedRun Rattle.rules.specs.Run.allHold Rattle.rules.specs.Run.valid Rattle.rules.specs.Run.validFor Rattle.rules.specs.Run.runLoaded Rattle.rules.specs.Run.runImage Rattle.rules.specs.Run.fillLoaded Rattle.rules.specs.Run.fillImage
 openedRun = tt
 
 unfoldable pub openedCompile : Unit {0}

@@ -1,5 +1,5 @@
 -- Running an image on a table, with 23 and 24, and filling a table with initial values.
-use mathlib.Core.Bool.{Bool, true, _&&_}
+use mathlib.Core.Bool.{Bool, true, false, _&&_}
 use mathlib.Core.List as L
 use mathlib.Core.List.{[], _∷_}
 use mathlib.Core.Option.{Option, none, some}
@@ -47,6 +47,11 @@ allHold (τ ∷ Γ) (z ∷ t) = holds τ z && allHold Γ t
 -- a valid table: one entry per variable, each in its type's range (so a BOOL's is 0 or 1); else 24
 unfoldable pub valid : L.List Ty → Table → Bool
 valid Γ t = eqb (length t) (length Γ) && allHold Γ t
+
+-- the table is valid for the image
+unfoldable pub validFor : Option Loaded → Table → Bool
+validFor none t = false
+validFor (some i) t = valid (types (i .vars)) t
 
 -- 23, 24, then steps; with a stack of at most n values
 unfoldable pub runLoaded : ℕ → Option Loaded → ℕ → Table → Report

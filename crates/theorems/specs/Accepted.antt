@@ -2,9 +2,8 @@
 use mathlib.Core.List as L
 use mathlib.Core.Logic.{_≢_}
 use mathlib.Core.Path.{_≡_}
-use Prim.Native.Nat.{ℕ, _+_, _-_, _*_, _≤_, _<_}
+use Prim.Native.Nat.{ℕ, _+_, _≤_, _<_}
 use native.Mathlib.Omega.{arith}
-use lib.ListN.{length}
 use Rattle.rules.specs.Numbers.{Ty}
 use Rattle.rules.specs.Core.{List, case}
 use Rattle.rules.specs.Meaning.{Table, Stop, ill, Out, go, left, halt, execL, ansOf, meaning}
@@ -13,11 +12,10 @@ use Rattle.rules.specs.Translation.{sizeL, codeOf}
 use Rattle.rules.specs.Depth.{depthL}
 use Rattle.rules.specs.Worst.{fin, worstL}
 use Rattle.theorems.specs.Levels.{forsL}
-use Rattle.theorems.specs.TicksFall.{kOf, execL-le}
+use Rattle.theorems.specs.TicksFall.{kOf}
 use Rattle.theorems.specs.Fields.{FitL, central}
 use Rattle.theorems.specs.WorstCase.{WfL, okL, unFin}
 use Rattle.theorems.specs.Typing.{Valid, TyL, Real, rSpent, rRange, rDivide, Snd, sGo, sLeft, sHalt, sndL}
-use Rattle.theorems.specs.Instructions.{bound}
 use Rattle.theorems.specs.StackLimit.{run-like}
 
 -- what an accepted text meets: fields hold their operands, code, nesting and depth keep their limits, types are right, and rules 11 and 15

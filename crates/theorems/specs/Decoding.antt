@@ -53,14 +53,14 @@ ofU-pos : (u : ℕ) → u < 2147483648 → ofU u ≡ pos u
 unfolding ofU
 ofU-pos u b = rw (lt-ltb u 2147483648 b, ofU)
 
-ofU-toU : (z : ℤ) → mag z < 2147483648 → ofU (toU z) ≡ z
+pub ofU-toU : (z : ℤ) → mag z < 2147483648 → ofU (toU z) ≡ z
 unfolding toU
 ofU-toU (pos n) b = ofU-pos n b
 ofU-toU (negsuc n) b =
     let e : 4294967295 - (4294967295 - n) ≡ n = omega arith in
     ofU-neg (4294967295 - n) (omega arith) ∙ ap negsuc e
 
-bytes-sum : (u : ℕ) → u % 256 + 256 * (u / 256 % 256) + 65536 * (u / 65536 % 256) + 16777216 * (u / 16777216) ≡ u
+pub bytes-sum : (u : ℕ) → u % 256 + 256 * (u / 256 % 256) + 65536 * (u / 65536 % 256) + 16777216 * (u / 16777216) ≡ u
 bytes-sum u = omega arith
 
 get4-put4 : (z : ℤ) (r : L.List ℕ) (K : ℤ → L.List ℕ → Instr) → mag z < 2147483648 → get4 (put4 (toU z) r) K ≡ K z r

@@ -21,5 +21,9 @@ pub mod WellTyped
 pub mod WalkAccepts
 pub mod Nesting
 pub mod ForNesting
+pub mod Declarations
 pub mod Promise
+pub mod Records
 pub mod ReaderLaws
+pub mod Compiled
+pub mod Demands

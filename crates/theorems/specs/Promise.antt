@@ -5,15 +5,15 @@ use mathlib.Core.Bool.{false}
 use mathlib.Core.List.{[], _∷_}
 use Prim.Native.Nat.{ℕ, suc, _*_, _≤_}
 use native.Mathlib.Omega.{arith}
-use lib.Dec.{leb, ltb, leb→le, ltb→lt}
-use lib.ListN.{length, length-append}
-use Rattle.rules.specs.Core.{List, Program}
+use lib.Dec.{leb}
+use lib.ListN.{length}
+use Rattle.rules.specs.Core.{List, Program, Variable}
 use Rattle.rules.specs.Translation.{codeOf}
 use Rattle.rules.specs.Base.{Res, ok, refuse, need}
 use Rattle.rules.specs.Tokens.{Token, tokens}
-use Rattle.rules.specs.Syntax.{Decl, Tree, Read, got, bad, program, variables, treeOf, parse}
-use Rattle.rules.specs.Walk.{find, isNone, initial, declare, declareAll, list, walk, nameless, Var}
-use Rattle.rules.specs.Compile.{accepted, front, answer, compile, compiled}
+use Rattle.rules.specs.Syntax.{Tree, Read, got, bad, program, treeOf, parse}
+use Rattle.rules.specs.Walk.{declareAll, list, walk, nameless, Var}
+use Rattle.rules.specs.Compile.{accepted, refused, front, answer, compile, compiled, Answer}
 use Rattle.rules.specs.Image.{image}
 use Rattle.rules.specs.Core.{types}
 use Rattle.theorems.specs.Sizes.{code-length}
@@ -23,29 +23,15 @@ use Rattle.theorems.specs.WalkAccepts.{okL}
 use Rattle.theorems.specs.Nesting.{forsL, Always, drop, pass, bind, gives, listIn}
 use Rattle.theorems.specs.ForNesting.{keepL}
 use Rattle.rules.specs.Limits.{memoryNumbers, textLimit, codeLimit}
+use Rattle.theorems.specs.Declarations.{nameless-length, declare-all}
+use Rattle.theorems.specs.Tests.{leb-t}
+use Rattle.rules.specs.Depth.{depthL}
+use Rattle.rules.specs.Worst.{figure, worstL}
 
--- at most 64 variables
-
-types-length : (vs : L.List Var) → length (types (nameless vs)) ≡ length vs
-unfolding types nameless
+types-length : (vs : L.List Variable) → length (types vs) ≡ length vs
+unfolding types
 types-length [] = refl
 types-length (v ∷ vs) = ap suc (types-length vs)
-
-declare-few : (vs ws : L.List Var) (d : Decl) → declare vs d ≡ ok ws → length ws ≤ 64
-unfolding declare
-declare-few vs ws d e =
-    let a = inv (need (isNone (find (d .name .letters) 0 vs)) 6 (d .name .place)) _ e in
-    let b = inv (need (ltb (length vs) 64) 9 (d .name .place)) _ (a .2) in
-    let c = inv (initial d (d .init)) _ (b .2) in
-    let h = ltb→lt (length vs) 64 (rw (needed _ _ _ _ (b .1)) tt) in
-    subst (λ y. length y ≤ 64) (ok-inj (c .2)) (rw (length-append vs) (omega arith))
-
-declare-all : (ds : L.List Decl) (vs ws : L.List Var) → length vs ≤ 64 → declareAll vs ds ≡ ok ws → length ws ≤ 64
-unfolding declareAll
-declare-all [] vs ws h e = subst (λ y. length y ≤ 64) (ok-inj e) h
-declare-all (d ∷ ds) vs ws h e =
-    let a = inv (declare vs d) _ e in
-    declare-all ds (a .0) ws (declare-few vs (a .0) d (a .1)) (a .2)
 
 -- at most 8 FORs nested
 
@@ -68,11 +54,12 @@ walk-in t p n e s =
     let a = inv (declareAll [] (t .decls)) _ e in
     let b = inv (list (a .0) (t .body) [] false) _ (a .2) in
     let q = ok-inj (b .2) in
-    subst (λ y. Accepted (types (y .vars)) (y .body)) q (made (a .0) (b .0) (declare-all (t .decls) [] (a .0) (omega arith) (a .1)) (b .1) (subst (λ y. length (codeOf (y .body)) ≤ 8192) (sym q) s))
+    subst (λ y. Accepted (types (y .vars)) (y .body)) q (made (a .0) (b .0) (declare-all (t .decls) [] (a .0) (record { few = omega arith; held = tt }) (a .1) .few) (b .1) (subst (λ y. length (codeOf (y .body)) ≤ 8192) (sym q) s))
   where
     made : (vs : L.List Var) (l : List) → length vs ≤ 64 → list vs (t .body) [] false ≡ ok l → length (codeOf l) ≤ 8192 → Accepted (types (nameless vs)) l
     made vs l few h s =
-        let k = types-length vs in
+        let k = types-length (nameless vs) in
+        let j = nameless-length vs in
         let f = okL vs (omega arith) (t .body) [] false l h in
         let c = code-length l in
         let m = keepL vs (t .body) [] false l h in
@@ -85,24 +72,37 @@ front-in text p h s =
     let b = inv (parse (a .0)) _ (a .2) in
     walk-in (b .0) p (parse-in (a .0) (b .0) (b .1)) (b .2) s
 
--- what is compiled has all that the theorems ask of it
-pub promised : (lent capacity : ℕ) (text : L.List ℕ) (p : Program) → compiled lent capacity text ≡ ok p → Accepted (types (p .vars)) (p .body)
+-- what is compiled comes from the text's own faults being none, and from code that is short enough
+pub record Parts (text : L.List ℕ) (p : Program) : Type 0 where
+  pub fronted : front text ≡ ok p
+  pub short : length (codeOf (p .body)) ≤ codeLimit
+
+pub parts : (lent capacity : ℕ) (text : L.List ℕ) (p : Program) → compiled lent capacity text ≡ ok p → Parts text p
 unfolding compiled
-promised lent capacity text p e =
+parts lent capacity text p e =
     let a = inv (need (leb memoryNumbers lent) 17 0) _ e in
     let b = inv (need (leb (length text) textLimit) 1 textLimit) _ (a .2) in
     let c = inv (front text) _ (b .2) in
     let d = inv (need (leb (length (codeOf (c .0 .body))) codeLimit) 13 (length text)) _ (c .2) in
     let f = inv (need (leb (length (image (c .0))) capacity) 14 (length text)) _ (d .2) in
-    let s = leb→le (length (codeOf (c .0 .body))) codeLimit (rw (needed _ _ _ _ (d .1)) tt) in
-    subst (λ y. Accepted (types (y .vars)) (y .body)) (ok-inj (f .2)) (front-in text (c .0) (c .1) s)
+    subst (Parts text) (ok-inj (f .2)) (record { fronted = c .1; short = leb-t (length (codeOf (c .0 .body))) codeLimit (needed _ _ _ _ (d .1)) })
 
--- an answer that accepts comes from a program
-pub program-of : (lent capacity : ℕ) (text i : L.List ℕ) (c d w : ℕ) → compile lent capacity text ≡ accepted i c d w
-    → (p : Program) × (compiled lent capacity text ≡ ok p)
+-- so it has all that the theorems ask of it
+pub promised : (lent capacity : ℕ) (text : L.List ℕ) (p : Program) → compiled lent capacity text ≡ ok p → Accepted (types (p .vars)) (p .body)
+promised lent capacity text p e = let c = parts lent capacity text p e in front-in text p (c .fronted) (c .short)
+
+-- an answer that accepts comes from a program: what holds of that program's image and figures holds of the answer's
+pub by-program : (lent capacity : ℕ) (text i : L.List ℕ) (c d w : ℕ) → compile lent capacity text ≡ accepted i c d w
+    → (P : L.List ℕ → ℕ → ℕ → ℕ → Type 0)
+    → ((p : Program) → compiled lent capacity text ≡ ok p → P (image p) (length (codeOf (p .body))) (depthL (p .body)) (figure (worstL (p .body))))
+    → P i c d w
 unfolding compile answer
-program-of lent capacity text i c d w e = by (compiled lent capacity text) refl e
+by-program lent capacity text i c d w e P f = by (compiled lent capacity text) refl e
   where
-    by : (r : Res Program) → compiled lent capacity text ≡ r → answer r ≡ accepted i c d w → (p : Program) × (compiled lent capacity text ≡ ok p)
-    by (ok p) h q = (p, h)
+    Of : Answer → Type 0
+    Of (accepted i c d w) = P i c d w
+    Of (refused n p) = Unit {0}
+
+    by : (r : Res Program) → compiled lent capacity text ≡ r → answer r ≡ accepted i c d w → P i c d w
+    by (ok p) h q = subst Of q (f p h)
     by (refuse n p) h q = let z : _≡_ {A = ℕ} 0 1 = cc in absurd (omega arith)

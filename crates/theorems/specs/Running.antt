@@ -6,7 +6,7 @@ use mathlib.Core.List.{[], _∷_}
 use Prim.Native.Nat.{ℕ, zero, suc, _+_, _≤_, _<_}
 use native.Mathlib.Omega.{arith}
 use lib.IntN.{ℤ, pos, _+ℤ_}
-use lib.Dec.{T, ltb, ltb→lt, nltb→le, lt→ltb}
+use lib.Dec.{ltb}
 use lib.ListN.{length, getD, set}
 use Rattle.rules.specs.Meaning.{Table, Stop, spent, ill, Ev, val, stop, unop, binop, load, loadD, storable, passes}
 use Rattle.rules.specs.Numbers.{ofBool, isZero, between}

@@ -8,7 +8,7 @@ use mathlib.Core.Option.{Option, none, some}
 use Prim.Native.Nat.{ℕ, zero, suc, _+_, _<_, _≤_}
 use native.Mathlib.Omega.{arith}
 use lib.IntN.{ℤ, pos}
-use lib.Dec.{T, eqb, eqb-refl, leb, leb→le}
+use lib.Dec.{eqb, leb}
 use lib.ListN.{length, getD}
 use Rattle.rules.specs.Numbers.{Ty, bool, dint, ofBool, isZero, sameTy}
 use Rattle.rules.specs.Core.{Expr, Labels, Stmt, List, Brs, Grps, assign, if, case, for, while, repeat, exit, nil, cons, none as noB, els, elsif, other, grp}

@@ -3,11 +3,9 @@ use mathlib.Core.List as L
 use mathlib.Core.Path.{_≡_, refl, sym, ap, _∙_}
 use mathlib.Core.Logic.{_≢_}
 use mathlib.Core.Bool.{Bool, true, false, not, _&&_}
-use Prim.Native.Nat.{ℕ, zero, suc, _+_, _-_, _*_, _/_, _≤_, _<_, max}
+use Prim.Native.Nat.{ℕ, zero, suc, _+_, _*_, _≤_, _<_, max}
 use native.Mathlib.Omega.{arith}
-use native.Mathlib.Nat.{add-div-right}
-use lib.IntN.{ℤ, pos, negsuc, negℤ, _+ℤ_, _-ℤ_, subℕ, +ℤ-assoc, +ℤ-comm, +ℤ-negℤ-cancel, -ℤ-+ℤ-cancel}
-use lib.Signed.{ltZ}
+use lib.IntN.{ℤ, pos, negℤ, _+ℤ_}
 use lib.Dec.{ltb}
 use lib.ListN.{length, getD, set, length-set}
 use lib.Seq.{getD-set-same, getD-set-other}
@@ -16,8 +14,8 @@ use Rattle.rules.specs.Core.{Neg, Not, Expr, num, flag, var, un, bin, pls, par,
 use Rattle.rules.specs.Meaning.{Table, Stop, range, Ev, val, stop, load, loadD, storable, eval, bindE, unop, fit, passes, Out, go, left, halt, tick, onE, onGo, store, inLabels, onPass, loopF, exec, execL, execB, execG}
 use Rattle.theorems.specs.TicksFall.{kOf}
 use Rattle.theorems.specs.Keeping.{tabOf, StoresL, execL-i}
-use Rattle.rules.specs.Worst.{Bound, fin, passCount, conOf, negLit, litOf, addW, maxW, forW, worstS, unb, toNat, lit, nolit, Lit, worstB, worstG, worstL}
-use Rattle.theorems.specs.Tests.{ltb-t, ltb-no, lt-ltb, ltb-f, and-l}
+use Rattle.rules.specs.Worst.{Bound, fin, passCount, conOf, negLit, litOf, addW, maxW, forW, worstS, unb, lit, nolit, Lit, worstB, worstG, worstL}
+use Rattle.theorems.specs.Tests.{ltb-t, and-l}
 use Rattle.theorems.specs.Passes.{count-one, count-more}
 
 -- rules 11 and 15: a FOR's variable is not stored to in its body; its step is not 0

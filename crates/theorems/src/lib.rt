@@ -1,3 +1,1 @@
-pub fn one() -> u32 {
-    1
-}
+// What follows from the rules: specs/ holds the theorems, and this crate has no code.

@@ -1,0 +1,78 @@
+-- The demands, on one page: what holds of every text, table and budget. Each is proved here from the laws of the other files.
+use mathlib.Core.Logic.{_≢_}
+use mathlib.Core.Path.{_≡_, refl, sym, ap}
+use mathlib.Core.Bool.{true}
+use mathlib.Core.List as L
+use mathlib.Core.Option.{some}
+use Prim.Native.Nat.{ℕ, _+_, _*_, _≤_}
+use lib.ListN.{length}
+use Rattle.rules.specs.Limits.{stackLimit, unboundedMark}
+use Rattle.rules.specs.Base.{Res, ok, _>>=_}
+use Rattle.rules.specs.Syntax.{program}
+use Rattle.rules.specs.Core.{types, Program}
+use Rattle.rules.specs.Meaning.{Table}
+use Rattle.rules.specs.Image.{image, Loaded, imageIn}
+use Rattle.rules.specs.Run.{runLoaded, runImage, validFor}
+use Rattle.rules.specs.Compile.{accepted, refused, compiled, answer, compile}
+use Rattle.rules.specs.Evaluate.{Told, toldBy, evaluate}
+use Rattle.theorems.specs.Accepted.{Accepted}
+use Rattle.theorems.specs.Promise.{promised, by-program}
+use Rattle.theorems.specs.Records.{reads-back}
+use Rattle.theorems.specs.Compiled.{evaluated-run, no-bad-code, few-ticks, table-kept, deep-enough, few-instructions}
+
+-- Demand 1. Evaluating ends with one answer, and a text is refused with one number and one place
+
+pub one-answer : (lent capacity : ℕ) (text : L.List ℕ) (B : ℕ) (t : Table) → (a : Res Told) × (evaluate lent capacity text B t ≡ a) × ((b : Res Told) → evaluate lent capacity text B t ≡ b → b ≡ a)
+one-answer lent capacity text B t = (evaluate lent capacity text B t, refl, λ b e. sym e)
+
+pub one-refusal : (lent capacity : ℕ) (text : L.List ℕ) (n p m q : ℕ) → compile lent capacity text ≡ refused n p → compile lent capacity text ≡ refused m q → (n ≡ m) × (p ≡ q)
+one-refusal lent capacity text n p m q e f = (cc, cc)
+
+-- Of any image, whoever wrote it: the instructions carried out are at most (ticks + 1) times the bytes of code
+pub any-instructions : (bytes : L.List ℕ) (l : Loaded) → imageIn bytes ≡ some l → (B : ℕ) (t : Table) → (runImage bytes B t) .instructions ≤ ((runImage bytes B t) .ticks + 1) * length (l .code)
+unfolding runImage
+any-instructions bytes l e B t = rw e (few-instructions l stackLimit B t)
+
+-- Of an accepted text: i is its image, c the bytes of its code, d its depth, w its worst case
+
+module _ (lent capacity : ℕ) (text i : L.List ℕ) (c d w : ℕ) (yes : compile lent capacity text ≡ accepted i c d w) where
+  -- 1. its core program meets all that the laws ask
+  pub meets : (p : Program) × (compiled lent capacity text ≡ ok p) × Accepted (types (p .vars)) (p .body)
+  meets = by-program lent capacity text i c d w yes (λ i c d w. (p : Program) × (compiled lent capacity text ≡ ok p) × Accepted (types (p .vars)) (p .body))
+      (λ p e. (p, e, promised lent capacity text p e))
+
+  -- 2. Demand 2: running its image gives the outcome, ticks and table that evaluating the text gives, for every table and budget
+  pub runs-as-evaluated : (B : ℕ) (t : Table) → evaluate lent capacity text B t ≡ ok (toldBy (runImage i B t))
+  unfolding evaluate runImage _>>=_
+  runs-as-evaluated = by-program lent capacity text i c d w yes (λ i c d w. (B : ℕ) (t : Table) → evaluate lent capacity text B t ≡ ok (toldBy (runImage i B t)))
+      (λ p e B t. rw (e, reads-back lent capacity text p e) (ap ok (sym (evaluated-run p (promised lent capacity text p e) B t))))
+
+  -- 3. no run of it ends in 25
+  pub never-bad-code : (B : ℕ) (t : Table) → (runImage i B t) .outcome ≢ 25
+  unfolding runImage
+  never-bad-code = by-program lent capacity text i c d w yes (λ i c d w. (B : ℕ) (t : Table) → (runImage i B t) .outcome ≢ 25)
+      (λ p e B t. rw (reads-back lent capacity text p e) (no-bad-code p (promised lent capacity text p e) B t))
+
+  -- 4. Demand 3: the stack never passes the stated depth; with that limit every run is the same
+  pub depth-is-enough : (B : ℕ) (t : Table) → runLoaded d (imageIn i) B t ≡ runImage i B t
+  unfolding runImage
+  depth-is-enough = by-program lent capacity text i c d w yes (λ i c d w. (B : ℕ) (t : Table) → runLoaded d (imageIn i) B t ≡ runImage i B t)
+      (λ p e B t. rw (reads-back lent capacity text p e) (deep-enough p (promised lent capacity text p e) B t))
+
+  -- 5. Demand 3: where it states a worst case, no table makes a run take more ticks
+  pub within-worst-case : w ≢ unboundedMark → (B : ℕ) (t : Table) → (runImage i B t) .ticks ≤ w
+  unfolding runImage
+  within-worst-case = by-program lent capacity text i c d w yes (λ i c d w. w ≢ unboundedMark → (B : ℕ) (t : Table) → (runImage i B t) .ticks ≤ w)
+      (λ p e n B t. rw (reads-back lent capacity text p e) (few-ticks p (promised lent capacity text p e) _ B t refl n))
+
+  -- 6. Demand 3: the instructions carried out are at most (ticks + 1) times the bytes of code
+  pub instructions-bounded : (B : ℕ) (t : Table) → (runImage i B t) .instructions ≤ ((runImage i B t) .ticks + 1) * c
+  unfolding runImage
+  instructions-bounded = by-program lent capacity text i c d w yes (λ i c d w. (B : ℕ) (t : Table) → (runImage i B t) .instructions ≤ ((runImage i B t) .ticks + 1) * c)
+      (λ p e B t. any-instructions (image p) _ (reads-back lent capacity text p e) B t)
+
+  -- 7. a run keeps a valid table valid
+  pub table-stays-valid : (B : ℕ) (t : Table) → validFor (imageIn i) t ≡ true → validFor (imageIn i) ((runImage i B t) .table) ≡ true
+  unfolding runImage
+  table-stays-valid = by-program lent capacity text i c d w yes (λ i c d w. (B : ℕ) (t : Table) → validFor (imageIn i) t ≡ true → validFor (imageIn i) ((runImage i B t) .table) ≡ true)
+      (λ p e B t. rw (reads-back lent capacity text p e) (table-kept p (promised lent capacity text p e) B t))
