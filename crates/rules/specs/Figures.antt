@@ -1,77 +1,17 @@
--- The worked figures of the rules, from the text's bytes: one statement over one list.
+-- The worked figures of the rules, from the text's bytes: one statement over one list. Those that the rules star are said of the
+-- meaning itself and of running the image.
 use mathlib.Core.Path.{_≡_, refl}
-use mathlib.Core.List as L
-use mathlib.Core.List.{[], _∷_, _++_, map}
-use Prim.Native.Nat.{ℕ}
-use Prim.Native.String.{String}
+use mathlib.Core.List.{List, [], _∷_, map}
 use lib.IntN.{ℤ, pos, negsuc}
-use Rattle.rules.specs.Limits.{memoryNumbers, imageLimit}
-use Rattle.rules.specs.Base.{Res, ok, refuse, bytes}
-use Rattle.rules.specs.Meaning.{Table}
-use Rattle.rules.specs.Compile.{Answer, accepted, refused, compile}
-use Rattle.rules.specs.Run.{Report, runImage}
-use Rattle.rules.specs.Evaluate.{Told, evaluate, toldBy}
+use Rattle.rules.specs.Base.{bytes}
+use Rattle.rules.specs.Compile.{accepted, refused}
 use Rattle.rules.specs.Opened.{opened}
+use Rattle.rules.specs.Cases.{Case, found, compiling, meaning, report, listing, overA}
 
--- what must come out
-data Fact : Type 0 where
-  -- of compiling: the answer
-  answers : Answer → Fact
-  -- of evaluating the text, and of running its image: outcome, ticks and table
-  tells : Res Told → Res Told → Fact
-  -- of running its image: the whole report
-  reports : Res Report → Fact
-
-record Figure : Type 0 where
-  text : L.List ℕ
-  table : Table
-  budget : ℕ
-  want : Fact
-
-answered : L.List ℕ → Answer
-answered text = compile memoryNumbers imageLimit text
-
-running : Answer → ℕ → Table → Res Report
-running (accepted i c d w) budget t = ok (runImage i budget t)
-running (refused n p) budget t = refuse n p
-
-tellsRun : Res Report → Res Told
-tellsRun (ok r) = ok (toldBy r)
-tellsRun (refuse n p) = refuse n p
-
--- what is found, of the kind that is wanted
-found : Fact → L.List ℕ → ℕ → Table → Fact
-found (answers a) text budget t = answers (answered text)
-found (tells r s) text budget t = tells (evaluate memoryNumbers imageLimit text budget t) (tellsRun (running (answered text) budget t))
-found (reports r) text budget t = reports (running (answered text) budget t)
-
--- a text and the compiler's answer
-compiling : L.List ℕ → Answer → Figure
-compiling text a = record { text = text; table = []; budget = 0; want = answers a }
-
--- a text and a table, at the largest budget; outcome, ticks and table
-meaning : L.List ℕ → Table → ℕ → ℕ → Table → Figure
-meaning text t outcome ticks u =
-    let told : Res Told = ok (record { outcome = outcome; ticks = ticks; table = u }) in
-    record { text = text; table = t; budget = 4294967295; want = tells told told }
-
--- the same with the instructions and the offset
-listing : L.List ℕ → Table → ℕ → ℕ → ℕ → ℕ → Table → Figure
-listing text t outcome ticks instructions offset u = record {
-  text = text;
-  table = t;
-  budget = 4294967295;
-  want = reports (ok (record { outcome = outcome; ticks = ticks; instructions = instructions; offset = offset; table = u }));
-}
-
-lowest : ℤ
+abbrev lowest : ℤ
 lowest = negsuc 2147483647
 
--- statements over one variable A
-overA : String → L.List ℕ
-overA s = bytes "PROGRAM P VAR A:DINT; END_VAR " ++ (bytes s ++ bytes " END_PROGRAM")
-
-figures : L.List Figure
+figures : List Case
 figures =
     -- the listing
     compiling (bytes "PROGRAM P VAR A:DINT; END_VAR A:=A+1; END_PROGRAM")
@@ -81,9 +21,9 @@ figures =
     12 2 1) ∷
     compiling (bytes "") (refused 5 0) ∷
     meaning (overA "A:=A+1;") (pos 5 ∷ []) 0 1 (pos 6 ∷ []) ∷
-    listing (overA "A:=A+1;") (pos 5 ∷ []) 0 1 6 11 (pos 6 ∷ []) ∷
+    listing (overA "A:=A+1;") (pos 5 ∷ []) (report 0 1 6 11 (pos 6 ∷ [])) ∷
     meaning (overA "A:=A+1;") (pos 2147483647 ∷ []) 21 1 (pos 2147483647 ∷ []) ∷
-    listing (overA "A:=A+1;") (pos 2147483647 ∷ []) 21 1 3 8 (pos 2147483647 ∷ []) ∷
+    listing (overA "A:=A+1;") (pos 2147483647 ∷ []) (report 21 1 3 8 (pos 2147483647 ∷ [])) ∷
     -- division and remainder
     meaning (overA "A := -7 / 2;") (pos 0 ∷ []) 0 1 (negsuc 2 ∷ []) ∷
     meaning (overA "A := -7 MOD 2;") (pos 0 ∷ []) 0 1 (negsuc 0 ∷ []) ∷
@@ -109,6 +49,6 @@ figures =
     meaning (overA "CASE 3 OF 1..5: A := 1; 3: A := 2; END_CASE;") (pos 0 ∷ []) 0 2 (pos 1 ∷ []) ∷
     []
 
-all-figures : map (λ c. found (c .want) (c .text) (c .budget) (c .table)) figures ≡ map (λ c. c .want) figures
-unfolding opened answered running tellsRun found compiling meaning listing lowest overA figures
+all-figures : map found figures ≡ map (λ c. c .want) figures
+unfolding opened figures
 all-figures = refl

@@ -19,4 +19,6 @@ pub mod Compile
 pub mod Evaluate
 pub mod Answers
 pub mod Opened
+pub mod Cases
 pub mod Figures
+pub mod Sentences

@@ -229,7 +229,7 @@ prefixed s arg = do
 unfoldable pub signedOperand : Reader Exp → Reader Exp
 signedOperand arg = when MINUS (prefixed minus arg) (when PLUS (prefixed plus arg) (when NOT (prefixed inverse arg) arg))
 
--- f: fuel, at least the tokens left; n: the parentheses around; m: the loosest level that is read
+-- f: fuel, at least twice the tokens left and two; n: the parentheses around; m: the loosest level that is read
 unfoldable mutual
   pub expr : ℕ → ℕ → ℕ → Reader Exp
   expr zero n m ts = bad 5 0
@@ -315,7 +315,7 @@ oneLabel = do
   d ← maybe DOTS
   give (label c d)
 
--- f: fuel, at least the tokens left
+-- f: fuel, at least the tokens left and one
 unfoldable pub labels : ℕ → Reader (L.List Label)
 labels zero ts = bad 5 0
 labels (suc f) ts = (do
@@ -355,7 +355,7 @@ oneMore stm list = do
   l ← list
   give (then s l)
 
--- f: fuel, at least twice the tokens left and two; n: IF, CASE and loops around; m: FORs around
+-- f: fuel, at least three times the tokens left and three; n: IF, CASE and loops around; m: FORs around
 unfoldable mutual
   pub statement : ℕ → ℕ → ℕ → Reader Stm
   statement zero n m ts = bad 5 0

@@ -3,7 +3,7 @@ use mathlib.Core.Path.{_≡_, refl, ap, subst}
 use mathlib.Core.Bool.{true, false}
 use mathlib.Core.List.{List, [], _∷_, _++_}
 use mathlib.Core.Option.{Option, none, some}
-use Prim.Native.Nat.{zero, suc, _≤_}
+use Prim.Native.Nat.{ℕ, zero, suc, _≤_}
 use native.Mathlib.Omega.{arith}
 use lib.IntN.{ℤ, pos}
 use lib.Dec.{ltb}
@@ -11,13 +11,16 @@ use lib.ListN.{length, length-append}
 use Rattle.rules.specs.Limits.{variableLimit}
 use Rattle.rules.specs.Base.{ok, need}
 use Rattle.rules.specs.Numbers.{Ty, bool, dint, low, high, between, holds, sameTy, ofBool}
-use Rattle.rules.specs.Syntax.{Con, conBool, conInt, Decl}
-use Rattle.rules.specs.Walk.{Var, nameless, find, isNone, conType, conValue, largest, exact, initial, declare, declareAll, walk}
+use Rattle.rules.specs.Syntax.{Con, conBool, conInt, Decl, parse}
+use Rattle.rules.specs.Walk.{Var, nameless, find, isNone, conType, conValue, largest, exact, initial, declare, declareAll, walk, list}
 use Rattle.theorems.specs.WellTyped.{inv, ok-inj, needed, same-ty}
 use Rattle.theorems.specs.Tests.{leb-t, le-leb}
+use Rattle.rules.specs.Core.{Variable, Program}
+use Rattle.rules.specs.Compile.{front}
+use Rattle.rules.specs.Tokens.{tokens}
 
 -- every type holds its variable's initial value
-abbrev pub Held : List Var → Type 0
+abbrev pub Held : List Variable → Type 0
 Held [] = Unit {0}
 Held (v ∷ vs) = (holds (v .type) (v .init) ≡ true) × Held vs
 
@@ -45,36 +48,47 @@ initial-held d (some c) z e =
     let s = same-ty (conType c) (d .type) (needed _ _ _ _ (b .1)) in
     subst (λ y. holds (d .type) y ≡ true) (ok-inj (b .2)) (rw s at (constant-held c (a .0) (a .1)))
 
-snoc-held : (vs : List Var) (v : Var) → Held vs → holds (v .type) (v .init) ≡ true → Held (vs ++ (v ∷ []))
-snoc-held [] v h k = (k, tt)
-snoc-held (w ∷ vs) v h k = (h .0, snoc-held vs v (h .1) k)
+last-held : (vs : List Var) (v : Var) → Held (nameless vs) → holds (v .type) (v .init) ≡ true → Held (nameless (vs ++ (v ∷ [])))
+unfolding nameless
+last-held [] v h k = (k, tt)
+last-held (w ∷ vs) v h k = (h .0, last-held vs v (h .1) k)
+
+-- without their letters they are as many
+nameless-length : (vs : List Var) → length (nameless vs) ≡ length vs
+unfolding nameless
+nameless-length [] = refl
+nameless-length (v ∷ vs) = ap suc (nameless-length vs)
 
 -- at most 64 variables, each with a value that its type holds
-pub record Declared (vs : List Var) : Type 0 where
+pub record Declared (vs : List Variable) : Type 0 where
   pub few : length vs ≤ variableLimit
   pub held : Held vs
 
-declare-one : (vs ws : List Var) (d : Decl) → Held vs → declare vs d ≡ ok ws → Declared ws
+declare-one : (vs ws : List Var) (d : Decl) → Held (nameless vs) → declare vs d ≡ ok ws → Declared (nameless ws)
 unfolding declare
 declare-one vs ws d h e =
     let a = inv (need (isNone (find (d .name .letters) 0 vs)) 6 (d .name .place)) _ e in
     let b = inv (need (ltb (length vs) variableLimit) 9 (d .name .place)) _ (a .2) in
     let c = inv (initial d (d .init)) _ (b .2) in
     let k = leb-t (suc (length vs)) variableLimit (needed _ _ _ _ (b .1)) in
-    subst Declared (ok-inj (c .2)) record {
-      few = rw length-append (omega arith);
-      held = snoc-held vs _ h (initial-held d (d .init) (c .0) (c .1));
+    subst (λ y. Declared (nameless y)) (ok-inj (c .2)) record {
+      few = rw (nameless-length, length-append) (omega arith);
+      held = last-held vs _ h (initial-held d (d .init) (c .0) (c .1));
     }
 
-pub declare-all : (ds : List Decl) (vs ws : List Var) → Declared vs → declareAll vs ds ≡ ok ws → Declared ws
+pub declare-all : (ds : List Decl) (vs ws : List Var) → Declared (nameless vs) → declareAll vs ds ≡ ok ws → Declared (nameless ws)
 unfolding declareAll
-declare-all [] vs ws h e = subst Declared (ok-inj e) h
+declare-all [] vs ws h e = subst (λ y. Declared (nameless y)) (ok-inj e) h
 declare-all (d ∷ ds) vs ws h e =
     let a = inv (declare vs d) _ e in
     declare-all ds (a .0) ws (declare-one vs (a .0) d (h .held) (a .1)) (a .2)
 
--- without their letters they are as many
-pub nameless-length : (vs : List Var) → length (nameless vs) ≡ length vs
-unfolding nameless
-nameless-length [] = refl
-nameless-length (v ∷ vs) = ap suc (nameless-length vs)
+-- the variables of what passes tokens, syntax and the walk
+pub front-declared : (text : List ℕ) (p : Program) → front text ≡ ok p → Declared (p .vars)
+unfolding front walk nameless
+front-declared text p e =
+    let a = inv (tokens text) _ e in
+    let b = inv (parse (a .0)) _ (a .2) in
+    let c = inv (declareAll [] (b .0 .decls)) _ (b .2) in
+    let d = inv (list (c .0) (b .0 .body) [] false) _ (c .2) in
+    subst (λ y. Declared (y .vars)) (ok-inj (d .2)) (declare-all (b .0 .decls) [] (c .0) (record { few = omega arith; held = tt }) (c .1))

@@ -4,21 +4,31 @@ use mathlib.Core.Path.{_≡_, refl, sym, ap}
 use mathlib.Core.Bool.{true}
 use mathlib.Core.List as L
 use mathlib.Core.Option.{some}
-use Prim.Native.Nat.{ℕ, _+_, _*_, _≤_}
+use Prim.Native.Nat.{ℕ, suc, _+_, _*_, _≤_}
+use native.Mathlib.Omega.{arith}
+use lib.IntN.{ℤ}
+use lib.Dec.{leb}
 use lib.ListN.{length}
-use Rattle.rules.specs.Limits.{stackLimit, unboundedMark}
+use Rattle.rules.specs.Limits.{stackLimit, textLimit, unboundedMark}
 use Rattle.rules.specs.Base.{Res, ok, _>>=_}
 use Rattle.rules.specs.Syntax.{program}
-use Rattle.rules.specs.Core.{types, Program}
-use Rattle.rules.specs.Meaning.{Table}
+use Rattle.rules.specs.Core.{types, Program, Expr, List, while, repeat}
+use Rattle.rules.specs.Meaning.{Table, exec, loopW, loopR, loopF, execL}
 use Rattle.rules.specs.Image.{image, Loaded, imageIn}
 use Rattle.rules.specs.Run.{runLoaded, runImage, validFor}
 use Rattle.rules.specs.Compile.{accepted, refused, compiled, answer, compile}
 use Rattle.rules.specs.Evaluate.{Told, toldBy, evaluate}
+use Rattle.theorems.specs.TicksFall.{execL-le}
+use Rattle.theorems.specs.Total.{while-fuel, repeat-fuel, for-fuel}
+use Rattle.theorems.specs.Fuel.{tokens-fuel, program-fuel}
 use Rattle.theorems.specs.Accepted.{Accepted}
+use Rattle.theorems.specs.Placeless.{essence, placelessAnswer, same-answer}
 use Rattle.theorems.specs.Promise.{promised, by-program}
 use Rattle.theorems.specs.Records.{reads-back}
+use Rattle.theorems.specs.Octets.{AllBelow, bytes-only}
 use Rattle.theorems.specs.Compiled.{evaluated-run, no-bad-code, few-ticks, table-kept, deep-enough, few-instructions}
+use Rattle.rules.specs.Tokens.{tokensAt, Token, tokens}
+use Rattle.rules.specs.Numbers.{Ty}
 
 -- Demand 1. Evaluating ends with one answer, and a text is refused with one number and one place
 
@@ -27,6 +37,25 @@ one-answer lent capacity text B t = (evaluate lent capacity text B t, refl, λ b
 
 pub one-refusal : (lent capacity : ℕ) (text : L.List ℕ) (n p m q : ℕ) → compile lent capacity text ≡ refused n p → compile lent capacity text ≡ refused m q → (n ≡ m) × (p ≡ q)
 one-refusal lent capacity text n p m q e f = (cc, cc)
+
+-- no answer comes of too little fuel: with more of it the tokens, the tree and the meaning of each loop are the same
+
+pub tokens-need-no-more : (text : L.List ℕ) (f : ℕ) → suc (length text) ≤ f → tokensAt f 0 text ≡ tokens text
+tokens-need-no-more = tokens-fuel
+
+pub tree-needs-no-more : (ts : L.List Token) (f : ℕ) → 4 * length ts ≤ f → program f ts ≡ program (4 * length ts) ts
+tree-needs-no-more = program-fuel
+
+pub while-needs-no-more : (Γ : L.List Ty) (c : Expr) (l : List) (f : ℕ) (t : Table) (k : ℕ) → k ≤ f → loopW c (λ u n. execL Γ l u n) f t k ≡ exec Γ (while c l) t k
+unfolding exec
+while-needs-no-more Γ c l f t k h = while-fuel (λ u n. execL Γ l u n) (λ u n. execL-le Γ l u n) c f k t k h (omega arith)
+
+pub repeat-needs-no-more : (Γ : L.List Ty) (c : Expr) (l : List) (f : ℕ) (t : Table) (k : ℕ) → k ≤ f → loopR c (λ u n. execL Γ l u n) f t k ≡ exec Γ (repeat l c) t k
+unfolding exec
+repeat-needs-no-more Γ c l f t k h = repeat-fuel (λ u n. execL Γ l u n) (λ u n. execL-le Γ l u n) c f k t k h (omega arith)
+
+pub for-needs-no-more : (Γ : L.List Ty) (v : ℕ) (s e : ℤ) (l : List) (f : ℕ) (t : Table) (k : ℕ) → k ≤ f → loopF Γ v s e (λ u n. execL Γ l u n) f t k ≡ loopF Γ v s e (λ u n. execL Γ l u n) k t k
+for-needs-no-more Γ v s e l f t k h = for-fuel (λ u n. execL Γ l u n) (λ u n. execL-le Γ l u n) Γ v s e f k t k h (omega arith)
 
 -- Of any image, whoever wrote it: the instructions carried out are at most (ticks + 1) times the bytes of code
 pub any-instructions : (bytes : L.List ℕ) (l : Loaded) → imageIn bytes ≡ some l → (B : ℕ) (t : Table) → (runImage bytes B t) .instructions ≤ ((runImage bytes B t) .ticks + 1) * length (l .code)
@@ -76,3 +105,13 @@ module _ (lent capacity : ℕ) (text i : L.List ℕ) (c d w : ℕ) (yes : compil
   unfolding runImage
   table-stays-valid = by-program lent capacity text i c d w yes (λ i c d w. (B : ℕ) (t : Table) → validFor (imageIn i) t ≡ true → validFor (imageIn i) ((runImage i B t) .table) ≡ true)
       (λ p e B t. rw (reads-back lent capacity text p e) (table-kept p (promised lent capacity text p e) B t))
+
+  -- and the image is bytes
+  pub image-is-bytes : AllBelow 256 i
+  image-is-bytes = bytes-only lent capacity text i c d w yes
+
+-- 8. Blanks, comments, letter case and the program's name: two texts whose tokens are the same up to places and the program's name have
+-- the same answer but for the place of a refusal, so the same image byte for byte (both within the text limit, or both over it)
+pub same-tokens-same-answer : (lent capacity : ℕ) (s s′ : L.List ℕ) (ts ts′ : L.List Token) → tokens s ≡ ok ts → tokens s′ ≡ ok ts′ → essence ts ≡ essence ts′
+    → leb (length s) textLimit ≡ leb (length s′) textLimit → placelessAnswer (compile lent capacity s) ≡ placelessAnswer (compile lent capacity s′)
+same-tokens-same-answer = same-answer

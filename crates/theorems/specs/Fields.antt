@@ -130,9 +130,13 @@ mutual
     ),
   )
 
+-- the whole code
+pub code-fits : (l : List) → FitL l → sizeL l < 8192 → forsL l ≤ 8 → AllFit (prog l)
+unfolding prog
+code-fits l f b w = fitL l 0 (sizeL l) 0 _ f (omega arith) (omega arith) (omega arith) (tt, tt)
+
 -- the central theorem
 pub central : (Γ : L.List Ty) (l : List) (t : Table) (B cap : ℕ) → FitL l → sizeL l < 8192 → forsL l ≤ 8 → depthL l ≤ cap
     → view (run (codeIn Γ (codeOf l) cap) B (start t)) ≡ meaning Γ l t B
-unfolding codeOf prog codeIn
-central Γ l t B cap f b w d = correct (codeIn Γ (encAll (prog l)) cap) l t B
-    (stands Γ (encAll (prog l)) cap (prog l) 0 (fitL l 0 (sizeL l) 0 _ f (omega arith) (omega arith) (omega arith) (tt, tt)) refl) d w
+unfolding codeOf codeIn
+central Γ l t B cap f b w d = correct (codeIn Γ (encAll (prog l)) cap) l t B (stands Γ (encAll (prog l)) cap (prog l) 0 (code-fits l f b w) refl) d w

@@ -25,5 +25,12 @@ pub mod Declarations
 pub mod Promise
 pub mod Records
 pub mod ReaderLaws
+pub mod Octets
+pub mod Alike
+pub mod Pieces
+pub mod Fuel
+pub mod PlacelessCode
+pub mod PlacelessWalk
+pub mod Placeless
 pub mod Compiled
 pub mod Demands

@@ -23,7 +23,7 @@ use Rattle.theorems.specs.WalkAccepts.{okL}
 use Rattle.theorems.specs.Nesting.{forsL, Always, drop, pass, bind, gives, listIn}
 use Rattle.theorems.specs.ForNesting.{keepL}
 use Rattle.rules.specs.Limits.{memoryNumbers, textLimit, codeLimit}
-use Rattle.theorems.specs.Declarations.{nameless-length, declare-all}
+use Rattle.theorems.specs.Declarations.{declare-all}
 use Rattle.theorems.specs.Tests.{leb-t}
 use Rattle.rules.specs.Depth.{depthL}
 use Rattle.rules.specs.Worst.{figure, worstL}
@@ -49,17 +49,16 @@ parse-in ts t e = by (program (4 * length ts) ts) refl e
 
 -- the walk's program, if its code is short enough
 walk-in : (t : Tree) (p : Program) → forsL (t .body) ≤ 8 → walk t ≡ ok p → length (codeOf (p .body)) ≤ 8192 → Accepted (types (p .vars)) (p .body)
-unfolding walk codeOf
+unfolding walk codeOf nameless
 walk-in t p n e s =
     let a = inv (declareAll [] (t .decls)) _ e in
     let b = inv (list (a .0) (t .body) [] false) _ (a .2) in
     let q = ok-inj (b .2) in
     subst (λ y. Accepted (types (y .vars)) (y .body)) q (made (a .0) (b .0) (declare-all (t .decls) [] (a .0) (record { few = omega arith; held = tt }) (a .1) .few) (b .1) (subst (λ y. length (codeOf (y .body)) ≤ 8192) (sym q) s))
   where
-    made : (vs : L.List Var) (l : List) → length vs ≤ 64 → list vs (t .body) [] false ≡ ok l → length (codeOf l) ≤ 8192 → Accepted (types (nameless vs)) l
+    made : (vs : L.List Var) (l : List) → length (nameless vs) ≤ 64 → list vs (t .body) [] false ≡ ok l → length (codeOf l) ≤ 8192 → Accepted (types (nameless vs)) l
     made vs l few h s =
         let k = types-length (nameless vs) in
-        let j = nameless-length vs in
         let f = okL vs (omega arith) (t .body) [] false l h in
         let c = code-length l in
         let m = keepL vs (t .body) [] false l h in
