@@ -22,6 +22,7 @@ use Rattle.theorems.specs.TicksFall.{execL-le}
 use Rattle.theorems.specs.Total.{while-fuel, repeat-fuel, for-fuel}
 use Rattle.theorems.specs.Fuel.{tokens-fuel, program-fuel}
 use Rattle.theorems.specs.Accepted.{Accepted}
+use Rattle.theorems.specs.Listed.{listed}
 use Rattle.theorems.specs.Placeless.{essence, placelessAnswer, same-answer}
 use Rattle.theorems.specs.Promise.{promised, by-program}
 use Rattle.theorems.specs.Records.{reads-back}
@@ -37,6 +38,10 @@ one-answer lent capacity text B t = (evaluate lent capacity text B t, refl, λ b
 
 pub one-refusal : (lent capacity : ℕ) (text : L.List ℕ) (n p m q : ℕ) → compile lent capacity text ≡ refused n p → compile lent capacity text ≡ refused m q → (n ≡ m) × (p ≡ q)
 one-refusal lent capacity text n p m q e f = (cc, cc)
+
+-- that number is one of the list, and that place is in the text or at its end
+pub refusal-is-listed : (lent capacity : ℕ) (text : L.List ℕ) (n p : ℕ) → compile lent capacity text ≡ refused n p → (1 ≤ n) × (n ≤ 17) × (p ≤ length text)
+refusal-is-listed = listed
 
 -- no answer comes of too little fuel: with more of it the tokens, the tree and the meaning of each loop are the same
 

@@ -1,22 +1,31 @@
+-- What every law uses
 pub mod Tests
+
+-- The machine, over any code: a law for each step, the bound on instructions, the stack limit
 pub mod Running
+pub mod Instructions
+pub mod StackLimit
+
+-- The meaning: ticks fall, fuel is enough, what a run keeps, types, the worst case
 pub mod TicksFall
 pub mod Total
 pub mod Keeping
-pub mod Levels
-pub mod Expressions
-pub mod Statements
-pub mod Simulation
-pub mod Instructions
-pub mod StackLimit
-pub mod Decoding
-pub mod Fields
 pub mod Passes
 pub mod WorstCase
 pub mod Typing
 pub mod ValidTable
-pub mod Accepted
+
+-- The translation: code stands in its bytes, and running it does what the text means
+pub mod Levels
+pub mod Decoding
+pub mod Expressions
+pub mod Statements
+pub mod Simulation
+pub mod Fields
 pub mod Sizes
+pub mod Accepted
+
+-- The compiler: what it accepts meets what the laws ask
 pub mod WellTyped
 pub mod WalkAccepts
 pub mod Nesting
@@ -24,13 +33,23 @@ pub mod ForNesting
 pub mod Declarations
 pub mod Promise
 pub mod Records
-pub mod ReaderLaws
 pub mod Octets
+pub mod Compiled
+
+-- The readers: laws of reading, enough fuel, no look at places or the program's name, and every refusal in the list
+pub mod ReaderLaws
 pub mod Alike
 pub mod Pieces
 pub mod Fuel
 pub mod PlacelessCode
 pub mod PlacelessWalk
 pub mod Placeless
-pub mod Compiled
+pub mod Refusals
+pub mod TokenPlaces
+pub mod TreePlaces
+pub mod ReadPlaces
+pub mod WalkPlaces
+pub mod Listed
+
+-- The demands, on one page
 pub mod Demands
