@@ -1,11 +1,9 @@
 -- What every law uses
 pub mod Tests
-
 -- The machine, over any code: a law for each step, the bound on instructions, the stack limit
 pub mod Running
 pub mod Instructions
 pub mod StackLimit
-
 -- The meaning: ticks fall, fuel is enough, what a run keeps, types, the worst case
 pub mod TicksFall
 pub mod Total
@@ -14,7 +12,6 @@ pub mod Passes
 pub mod WorstCase
 pub mod Typing
 pub mod ValidTable
-
 -- The translation: code stands in its bytes, and running it does what the text means
 pub mod Levels
 pub mod Decoding
@@ -24,7 +21,6 @@ pub mod Simulation
 pub mod Fields
 pub mod Sizes
 pub mod Accepted
-
 -- The compiler: what it accepts meets what the laws ask
 pub mod WellTyped
 pub mod WalkAccepts
@@ -35,7 +31,6 @@ pub mod Promise
 pub mod Records
 pub mod Octets
 pub mod Compiled
-
 -- The readers: laws of reading, enough fuel, no look at places or the program's name, and every refusal in the list
 pub mod ReaderLaws
 pub mod Alike
@@ -50,6 +45,5 @@ pub mod TreePlaces
 pub mod ReadPlaces
 pub mod WalkPlaces
 pub mod Listed
-
 -- The demands, on one page
 pub mod Demands

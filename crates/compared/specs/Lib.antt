@@ -1,0 +1,2 @@
+-- Cases from the second program
+pub mod Compared
