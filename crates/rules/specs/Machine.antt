@@ -29,12 +29,15 @@ pub record Ran : Type 0 where
   pub offset : ℕ
   pub count : ℕ
 
+-- one instruction more is completed
 unfoldable pub bump : Ran → Ran
 bump r = record { out = r .out; tab = r .tab; left = r .left; offset = r .offset; count = suc (r .count) }
 
+-- what is seen of it in terms of the meaning
 unfoldable pub view : Ran → Ans
 view r = ans (r .out) (r .tab) (r .left)
 
+-- a TICK stands there
 unfoldable pub isTick : Instr → Bool
 isTick TICK = true
 isTick (CONST z) = false
@@ -58,7 +61,7 @@ unfoldable pub pushE : Ev → ℕ → L.List ℤ → L.List ℤ → Table → St
 pushE (val v) p s h t = on (state p (v ∷ s) h t)
 pushE (stop o) p s h t = end o
 
--- the code, as the machine sees it: what stands at an offset, how long it is, and the stack's limit
+-- the code, as the machine sees it: what stands at an offset, its length, the stack's limit, the variables' types
 pub record Code : Type 0 where
   pub fetch : ℕ → Instr
   pub len : ℕ
@@ -66,16 +69,18 @@ pub record Code : Type 0 where
   pub types : L.List Ty
 
 module _ (c : Code) where
-  -- a jump from p to a is allowed: forward, or to a TICK
+  -- a jump from p to a is done if it goes forward, or to a TICK
   unfoldable pub okJump : ℕ → ℕ → Bool
   okJump p a = ltb p a || isTick (c .fetch a)
 
   unfoldable pub jumpTo : ℕ → ℕ → L.List ℤ → L.List ℤ → Table → Step
   jumpTo p a s h t = elim (okJump p a) [ true ↦ on (state a s h t) | false ↦ end ill ]
 
+  -- a value on the stack, if there is room
   unfoldable pub push : ℤ → ℕ → L.List ℤ → L.List ℤ → Table → Step
   push v p s h t = elim (ltb (length s) (c .cap)) [ true ↦ on (state p (v ∷ s) h t) | false ↦ end ill ]
 
+  -- what was read, on the stack, if there is room
   unfoldable pub pushR : Ev → ℕ → L.List ℤ → L.List ℤ → Table → Step
   pushR e p s h t = elim (ltb (length s) (c .cap)) [ true ↦ pushE e p s h t | false ↦ end ill ]
 
@@ -88,6 +93,7 @@ module _ (c : Code) where
   nextOn (stop o) p v step e a s h t = end o
   nextOn (val x) p v step e a s h t = elim (passes step (x +ℤ step) e) [ true ↦ on (state (p + 9) s h t) | false ↦ jumpTo p a s h (set t v (x +ℤ step)) ]
 
+  -- what an instruction does at offset p; an instruction that is bad does nothing
   unfoldable pub act : Instr → ℕ → L.List ℤ → L.List ℤ → Table → Step
   act TICK p s h t = tk
   act (CONST z) p s h t = push z (p + 5) s h t
@@ -115,9 +121,11 @@ module _ (c : Code) where
   act HALT p s h t = end done
   act BAD p s h t = end ill
 
+  -- an offset at or past the end is bad
   unfoldable pub step : State → Step
   step (state p s h t) = elim (ltb p (c .len)) [ true ↦ act (c .fetch p) p s h t | false ↦ end ill ]
 
+  -- the end of a run: HALT counts, an instruction that stops it does not
   unfoldable pub finish : Stop → State → ℕ → Ran
   finish done (state p s h t) k = record { out = done; tab = t; left = k; offset = p; count = 1 }
   finish spent (state p s h t) k = record { out = spent; tab = t; left = k; offset = p; count = 0 }
@@ -125,6 +133,7 @@ module _ (c : Code) where
   finish divide (state p s h t) k = record { out = divide; tab = t; left = k; offset = p; count = 0 }
   finish ill (state p s h t) k = record { out = ill; tab = t; left = k; offset = p; count = 0 }
 
+  -- behind a TICK
   unfoldable pub adv : State → State
   adv (state p s h t) = state (p + 1) s h t
 
