@@ -22,13 +22,14 @@ use Rattle.theorems.specs.TicksFall.{execL-le}
 use Rattle.theorems.specs.Total.{while-fuel, repeat-fuel, for-fuel}
 use Rattle.theorems.specs.Fuel.{tokens-fuel, program-fuel}
 use Rattle.theorems.specs.Accepted.{Accepted}
+use Rattle.theorems.specs.LetterCase.{same-compiled}
 use Rattle.theorems.specs.Listed.{listed}
 use Rattle.theorems.specs.Placeless.{essence, placelessAnswer, same-answer}
 use Rattle.theorems.specs.Promise.{promised, by-program}
 use Rattle.theorems.specs.Records.{reads-back}
 use Rattle.theorems.specs.Octets.{AllBelow, bytes-only}
 use Rattle.theorems.specs.Compiled.{evaluated-run, no-bad-code, few-ticks, table-kept, deep-enough, few-instructions}
-use Rattle.rules.specs.Tokens.{tokensAt, Token, tokens}
+use Rattle.rules.specs.Tokens.{fold, tokensAt, Token, tokens}
 use Rattle.rules.specs.Numbers.{Ty}
 
 -- Demand 1. Evaluating ends with one answer, and a text is refused with one number and one place
@@ -120,3 +121,7 @@ module _ (lent capacity : ℕ) (text i : L.List ℕ) (c d w : ℕ) (yes : compil
 pub same-tokens-same-answer : (lent capacity : ℕ) (s s′ : L.List ℕ) (ts ts′ : L.List Token) → tokens s ≡ ok ts → tokens s′ ≡ ok ts′ → essence ts ≡ essence ts′
     → leb (length s) textLimit ≡ leb (length s′) textLimit → placelessAnswer (compile lent capacity s) ≡ placelessAnswer (compile lent capacity s′)
 same-tokens-same-answer = same-answer
+
+-- letter case, from the bytes: two texts that are the same in capitals have the same answer, places and all
+pub letter-case-means-nothing : (lent capacity : ℕ) (s s′ : L.List ℕ) → fold s ≡ fold s′ → compile lent capacity s ≡ compile lent capacity s′
+letter-case-means-nothing = same-compiled

@@ -39,6 +39,7 @@ pub mod Fuel
 pub mod PlacelessCode
 pub mod PlacelessWalk
 pub mod Placeless
+pub mod LetterCase
 pub mod Refusals
 pub mod TokenPlaces
 pub mod TreePlaces

@@ -112,7 +112,7 @@ fn fors(random: &mut Random) -> String {
 /// An arithmetic expression of this height: each `1+1*(` adds two.
 pub fn of_height(height: usize) -> String {
     let levels = (height - 1) / 2;
-    let innermost = if height % 2 == 0 { "1+1" } else { "1" };
+    let innermost = if height.is_multiple_of(2) { "1+1" } else { "1" };
     format!(
         "{}{innermost}{}",
         "1+1*(".repeat(levels),
