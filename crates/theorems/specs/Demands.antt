@@ -3,6 +3,7 @@ use mathlib.Core.Logic.{_≢_}
 use mathlib.Core.Path.{_≡_, refl, sym, ap}
 use mathlib.Core.Bool.{true}
 use mathlib.Core.List as L
+use mathlib.Core.List.{[], _∷_, _++_}
 use mathlib.Core.Option.{some}
 use Prim.Native.Nat.{ℕ, suc, _+_, _*_, _≤_}
 use native.Mathlib.Omega.{arith}
@@ -23,6 +24,7 @@ use Rattle.theorems.specs.Total.{while-fuel, repeat-fuel, for-fuel}
 use Rattle.theorems.specs.Fuel.{tokens-fuel, program-fuel}
 use Rattle.theorems.specs.Accepted.{Accepted}
 use Rattle.theorems.specs.LetterCase.{same-compiled}
+use Rattle.theorems.specs.Lines.{endsLine, same-answer-without}
 use Rattle.theorems.specs.Listed.{listed}
 use Rattle.theorems.specs.Placeless.{essence, placelessAnswer, same-answer}
 use Rattle.theorems.specs.Promise.{promised, by-program}
@@ -125,3 +127,9 @@ same-tokens-same-answer = same-answer
 -- letter case, from the bytes: two texts that are the same in capitals have the same answer, places and all
 pub letter-case-means-nothing : (lent capacity : ℕ) (s s′ : L.List ℕ) → fold s ≡ fold s′ → compile lent capacity s ≡ compile lent capacity s′
 letter-case-means-nothing = same-compiled
+
+-- blanks and comments, from the bytes: lines of nothing else (g), put in behind whole lines (a), change nothing but the place of a refusal
+pub comment-lines-mean-nothing : (lent capacity : ℕ) (a g b : L.List ℕ) (ts : L.List Token) (e : Token) → tokens a ≡ ok ts → endsLine a ≡ true → tokens g ≡ ok (e ∷ []) → endsLine g ≡ true
+    → leb (length (a ++ (g ++ b))) textLimit ≡ leb (length (a ++ b)) textLimit
+    → placelessAnswer (compile lent capacity (a ++ (g ++ b))) ≡ placelessAnswer (compile lent capacity (a ++ b))
+comment-lines-mean-nothing = same-answer-without

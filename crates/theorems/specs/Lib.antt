@@ -46,5 +46,6 @@ pub mod TreePlaces
 pub mod ReadPlaces
 pub mod WalkPlaces
 pub mod Listed
+pub mod Lines
 -- The demands, on one page
 pub mod Demands

@@ -29,7 +29,7 @@ data Within (i m : ℕ) : Piece → Type 0 where
   wBad : (e : ℕ) → (1 ≤ e) × (e ≤ 17) → Within i m (bad e)
 
 -- a run of bytes is no longer than the text
-run-short : (p : ℕ → Bool) (s : List ℕ) → length (run p s) ≤ length s
+pub run-short : (p : ℕ → Bool) (s : List ℕ) → length (run p s) ≤ length s
 unfolding run
 run-short p [] = omega arith
 run-short p (x ∷ s) = let h = run-short p s in either (λ r. length r ≤ length (x ∷ s)) (p x) {x = x ∷ run p s} {y = []} (omega arith) (omega arith)
