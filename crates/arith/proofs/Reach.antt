@@ -1,0 +1,296 @@
+-- Signed numbers: how far a sum, a product, a quotient of two 32-bit numbers reaches, what the machine makes of an operation on two 64-bit numbers that hold them, and the range test. Assumes nothing.
+use mathlib.Core.Path.{_≡_, refl, sym, ap, _∙_}
+use mathlib.Core.Bool.{Bool, true, false, _&&_, cond}
+use Prim.Native.Nat.{ℕ, zero, suc, _+_, _-_, _*_, _/_, _≤_, _<_}
+use native.Mathlib.Nat.{mul-le-mul, le-trans, lt-of-le-of-lt, div-le-self, mod-eq-sub-div-mul, div-add-mod', zero-mul}
+use native.Mathlib.Omega.{arith}
+use lib.Dec.{T, leb, ltb, lit<}
+use lib.IntN.{ℤ, pos, negsuc, negℤ, subℕ, natAbs, _+ℤ_, _-ℤ_, _*ℤ_, negℤ-negℤ}
+use lib.Signed.{nonNeg, mag, ltZ, leZ, quotZ, remZ, mag-rem}
+use borrow.Author.Tests.{ltb-true, ltb-false, leb-true, leb-false, le-leb, lt-leb, lt-ltb, le-ltb}
+use mir.Syntax.{w32, w64}
+use mir.Val.{SFits, Fits, toZ, ofZ}
+use mir.Facts.{sfits-widen, toZ-ofZ, toZ-pos}
+use borrow.Author.Tests.{ne-eqb}
+use Rattle.rules.specs.Core.{Div, Mod}
+use Rattle.rules.specs.Numbers.{dint, holds, between, low, high}
+use Rattle.rules.specs.Meaning.{val, stop, range, divide, fit, binop, passes}
+use Rattle.rules.specs.Numbers.{isZero}
+use Rattle.arith.specs.Exact.{advanceOf}
+use Rattle.rules.specs.Bytes.{ofU, toU}
+use Rattle.arith.specs.declared.Advance.the-variants.{Ends, Steps}
+
+-- ---- the range
+and-true : (b : Bool) → b && true ≡ b
+and-true true = refl
+and-true false = refl
+
+never : {X : Type 0} → false ≡ true → X
+never e = let z : _≡_ {A = ℕ} 0 1 = cc in let y : ⊥ = omega arith in absurd y
+
+abbrev within : ℤ → Bool
+within z = leZ (negsuc 2147483647) z && leZ z (pos 2147483647)
+
+within-mag : (z : ℤ) → within z ≡ leb (mag z) 2147483647
+within-mag (pos n) = refl
+within-mag (negsuc n) = and-true (leb n 2147483647)
+
+below : (z : ℤ) → ltZ z (negsuc 2147483647) ≡ true → 2147483647 < mag z
+below (pos n) h = let z : _≡_ {A = ℕ} 0 1 = cc in omega arith
+below (negsuc n) h = ltb-true 2147483647 n h
+
+above : (z : ℤ) → ltZ (pos 2147483647) z ≡ true → 2147483647 < mag z
+above (pos n) h = ltb-true 2147483647 n h
+above (negsuc n) h = let z : _≡_ {A = ℕ} 0 1 = cc in omega arith
+
+inside : (z : ℤ) → ltZ z (negsuc 2147483647) ≡ false → ltZ (pos 2147483647) z ≡ false → mag z ≤ 2147483647
+inside (pos n) h k = ltb-false 2147483647 n k
+inside (negsuc n) h k = ltb-false 2147483647 n h
+
+pub left-out : (z : ℤ) → 2147483647 < mag z → stop range ≡ fit dint z
+unfolding fit holds between low high
+left-out z h = rw (within-mag z, lt-leb (mag z) 2147483647 h, fit)
+
+pub held : (z : ℤ) → mag z ≤ 2147483647 → val z ≡ fit dint z
+unfolding fit holds between low high
+held z h = rw (within-mag z, le-leb (mag z) 2147483647 h, fit)
+
+pub fits-in : {z : ℤ} → mag z ≤ 2147483647 → SFits w32 z
+fits-in h = record { sfits = omega arith }
+
+-- what the tests of narrow leave, where the machine reads a number back from its bits
+pub below-out : {z : ℤ} → SFits w64 z → ltZ (toZ w64 (ofZ w64 z)) (negsuc 2147483647) ≡ true → 2147483647 < mag z
+below-out {z} f h = below z (rw (toZ-ofZ f) at h)
+
+pub above-out : {z : ℤ} → SFits w64 z → ltZ (pos 2147483647) (toZ w64 (ofZ w64 z)) ≡ true → 2147483647 < mag z
+above-out {z} f h = above z (rw (toZ-ofZ f) at h)
+
+pub inside-in : {z : ℤ} → SFits w64 z → ltZ (toZ w64 (ofZ w64 z)) (negsuc 2147483647) ≡ false → ltZ (pos 2147483647) (toZ w64 (ofZ w64 z)) ≡ false → mag z ≤ 2147483647
+inside-in {z} f h k = inside z (rw (toZ-ofZ f) at h) (rw (toZ-ofZ f) at k)
+
+-- ---- how far results reach
+mag-cond : (c : Bool) (x y : ℤ) (k : ℕ) → mag x ≤ k → mag y ≤ k → mag (cond c x y) ≤ k
+mag-cond true x y k p q = p
+mag-cond false x y k p q = q
+
+mag-sub : (a b : ℕ) → mag (subℕ a b) ≤ a + b
+mag-sub a b = mag-cond (ltb a b) (negsuc (b - suc a)) (pos (a - b)) (a + b) (omega arith) (omega arith)
+
+mag-add : (a b : ℤ) → mag (a +ℤ b) ≤ mag a + mag b + 1
+mag-add (pos a) (pos b) = omega arith
+mag-add (pos a) (negsuc b) = omega (arith, mag-sub a (suc b))
+mag-add (negsuc a) (pos b) = omega (arith, mag-sub b (suc a))
+mag-add (negsuc a) (negsuc b) = omega arith
+
+mag-neg : (a : ℤ) → mag (negℤ a) ≤ mag a + 1
+mag-neg (pos zero) = omega arith
+mag-neg (pos (suc n)) = omega arith
+mag-neg (negsuc n) = omega arith
+
+mag-negpos : (n : ℕ) → mag (negℤ (pos n)) ≤ n
+mag-negpos zero = omega arith
+mag-negpos (suc n) = omega arith
+
+mag-mul : (a b : ℤ) → mag (a *ℤ b) ≤ (mag a + 1) * (mag b + 1)
+mag-mul (pos a) (pos b) = mul-le-mul (omega arith) (omega arith)
+mag-mul (pos a) (negsuc b) = le-trans (mag-negpos (a * suc b)) (mul-le-mul (omega arith) (omega arith))
+mag-mul (negsuc a) (pos b) = le-trans (mag-negpos (suc a * b)) (mul-le-mul (omega arith) (omega arith))
+mag-mul (negsuc a) (negsuc b) = mul-le-mul (omega arith) (omega arith)
+
+mag-quot : (a b : ℤ) → mag (quotZ a b) ≤ mag a + 1
+mag-quot (pos a) (pos b) = omega (arith, div-le-self a b)
+mag-quot (pos a) (negsuc b) = omega (arith, mag-negpos (a / suc b), div-le-self a (suc b))
+mag-quot (negsuc a) (pos b) = omega (arith, mag-negpos (suc a / b), div-le-self (suc a) b)
+mag-quot (negsuc a) (negsuc b) = omega (arith, div-le-self (suc a) (suc b))
+
+pub add-fits : (a b : ℤ) → SFits w32 a → SFits w32 b → SFits w64 (a +ℤ b)
+add-fits a b p q = record { sfits = omega (arith, mag-add a b) }
+
+pub sub-fits : (a b : ℤ) → SFits w32 a → SFits w32 b → SFits w64 (a -ℤ b)
+sub-fits a b p q = record { sfits = omega (arith, mag-add a (negℤ b), mag-neg b) }
+
+pub mul-fits : (a b : ℤ) → SFits w32 a → SFits w32 b → SFits w64 (a *ℤ b)
+mul-fits a b p q = record { sfits = lt-of-le-of-lt (le-trans (mag-mul a b) (mul-le-mul {n₂ = 2147483648} {m₂ = 2147483648} (omega arith) (omega arith))) (lit< tt) }
+
+pub quot-fits : (a b : ℤ) → SFits w32 a → SFits w32 b → SFits w64 (quotZ a b)
+quot-fits a b p q = record { sfits = omega (arith, mag-quot a b) }
+
+pub rem-fits : (a b : ℤ) → SFits w32 a → SFits w32 b → SFits w64 (remZ a b)
+rem-fits a b p q = record { sfits = omega (arith, mag-rem a b) }
+
+-- ---- an operation of the machine at 64 bits, on two numbers of 32
+module _ (op : ℤ → ℤ → ℤ) (reach : (a b : ℤ) → SFits w32 a → SFits w32 b → SFits w64 (op a b)) where
+  private-back : (x a : ℤ) → SFits w32 a → x ≡ toZ w32 (ofZ w32 a) → toZ w64 (ofZ w64 x) ≡ a
+  private-back x a f e = rw (e, toZ-ofZ f) (toZ-ofZ (sfits-widen tt f))
+
+  pub op-fits : (x y a b : ℤ) → SFits w32 a → SFits w32 b → x ≡ toZ w32 (ofZ w32 a) → y ≡ toZ w32 (ofZ w32 b) → SFits w64 (op (toZ w64 (ofZ w64 x)) (toZ w64 (ofZ w64 y)))
+  op-fits x y a b p q e f = rw (private-back x a p e, private-back y b q f) (reach a b p q)
+
+  pub op-is : (x y a b : ℤ) → SFits w32 a → SFits w32 b → x ≡ toZ w32 (ofZ w32 a) → y ≡ toZ w32 (ofZ w32 b) → toZ w64 (ofZ w64 (op (toZ w64 (ofZ w64 x)) (toZ w64 (ofZ w64 y)))) ≡ op a b
+  op-is x y a b p q e f = rw (private-back x a p e, private-back y b q f) (toZ-ofZ (reach a b p q))
+
+-- ---- two's complement
+pub low-half : (n : ℕ) → n < 2147483648 → toZ w32 n ≡ ofU n
+unfolding ofU
+low-half n h = rw (lt-ltb n 2147483648 h, ofU)
+
+pub high-half : (n : ℕ) → 2147483648 ≤ n → Fits w32 n → toZ w64 n -ℤ pos 4294967296 ≡ negsuc (4294967295 - n)
+high-half n h f = rw (toZ-pos w64 {n = n} (omega arith), lt-ltb n 4294967296 (omega arith)) (ap negsuc (omega arith))
+
+pub high-is : (n : ℕ) → 2147483648 ≤ n → negsuc (4294967295 - n) ≡ ofU n
+unfolding ofU
+high-is n h = rw (le-ltb n 2147483648 h, ofU)
+
+pub high-fits : (n : ℕ) → 2147483648 ≤ n → Fits w32 n → SFits w32 (negsuc (4294967295 - n))
+high-fits n h f = record { sfits = omega arith }
+
+-- ---- division
+pub not-zero : (b : ℤ) → SFits w64 b → (b ≡ pos 0 → ⊥) → 0 < ofZ w64 b
+not-zero (pos zero) f h = absurd (h refl)
+not-zero (pos (suc n)) f h = omega arith
+not-zero (negsuc n) f h = let m = f .sfits in omega arith
+
+zero-not : (b : ℤ) → (b ≡ pos 0 → ⊥) → isZero b ≡ false
+unfolding isZero
+zero-not (pos zero) h = absurd (h refl)
+zero-not (pos (suc n)) h = ne-eqb (suc n) 0 (λ e. omega arith)
+zero-not (negsuc n) h = refl
+
+pub div-is : (a b : ℤ) → (b ≡ pos 0 → ⊥) → fit dint (quotZ a b) ≡ binop Div a b
+unfolding binop
+div-is a b h = rw (zero-not b h, binop)
+
+pub rem-is : (a b : ℤ) → (b ≡ pos 0 → ⊥) → fit dint (remZ a b) ≡ binop Mod a b
+unfolding binop
+rem-is a b h = rw (zero-not b h, binop)
+
+-- the remainder with the dividend's sign is the dividend less the quotient times the divisor
+under : (n k : ℕ) → k ≤ n → subℕ n k ≡ pos (n - k)
+under n k h = rw (le-ltb n k h)
+
+pos-less : (n k : ℕ) → k ≤ n → pos n +ℤ negℤ (pos k) ≡ pos (n - k)
+pos-less n zero h = ap pos (omega arith)
+pos-less n (suc k) h = under n (suc k) h
+
+neg-times : (q m : ℕ) → negℤ (pos q) *ℤ negsuc m ≡ pos (q * suc m)
+neg-times zero m = rw (zero-mul (suc m))
+neg-times (suc q) m = refl
+
+neg-times-pos : (q m : ℕ) → negℤ (pos q) *ℤ pos m ≡ negℤ (pos (q * m))
+neg-times-pos zero m = rw (zero-mul m)
+neg-times-pos (suc q) m = refl
+
+neg-more : (a k : ℕ) → k ≤ suc a → negsuc a +ℤ pos k ≡ negℤ (pos (suc a - k))
+neg-more a k h = go (ltb k (suc a)) refl
+  where
+    go : (t : Bool) → ltb k (suc a) ≡ t → cond t (negsuc (suc a - suc k)) (pos (k - suc a)) ≡ negℤ (pos (suc a - k))
+    go true e =
+        let d : suc a - k ≡ suc (suc a - suc k) = omega (arith, ltb-true k (suc a) e) in
+        rw d
+    go false e =
+        let d : suc a - k ≡ 0 = omega (arith, ltb-false k (suc a) e) in
+        let z : k - suc a ≡ 0 = omega (arith, ltb-false k (suc a) e) in
+        rw (d, z)
+
+less : (n m : ℕ) → n / m * m ≤ n
+less n m = omega (arith, div-add-mod' n m)
+
+pub rem-law : (a b : ℤ) → a -ℤ quotZ a b *ℤ b ≡ remZ a b
+rem-law (pos n) (pos m) = pos-less n (n / m * m) (less n m) ∙ ap pos (sym (mod-eq-sub-div-mul n m))
+rem-law (pos n) (negsuc m) = rw (neg-times (n / suc m) m) (pos-less n (n / suc m * suc m) (less n (suc m)) ∙ ap pos (sym (mod-eq-sub-div-mul n (suc m))))
+rem-law (negsuc a) (pos m) = rw (neg-times-pos (suc a / m) m, negℤ-negℤ (pos (suc a / m * m))) (neg-more a (suc a / m * m) (less (suc a) m) ∙ ap (λ (k : ℕ). negℤ (pos k)) (sym (mod-eq-sub-div-mul (suc a) m)))
+rem-law (negsuc a) (negsuc m) = rw (negℤ-negℤ (pos (suc a / suc m * suc m))) (neg-more a (suc a / suc m * suc m) (less (suc a) (suc m)) ∙ ap (λ (k : ℕ). negℤ (pos k)) (sym (mod-eq-sub-div-mul (suc a) (suc m))))
+
+-- a test `b == 0` speaks of the number's bits
+pub zero-bits : {b : ℤ} → SFits w32 b → ofZ w32 b ≡ 0 → b ≡ pos 0
+zero-bits f e = sym (toZ-ofZ f) ∙ ap (toZ w32) e
+
+pub by-zero : (a b : ℤ) → b ≡ pos 0 → stop divide ≡ binop Div a b
+unfolding binop isZero
+by-zero a b e = rw e
+
+pub by-zero-rem : (a b : ℤ) → b ≡ pos 0 → stop divide ≡ binop Mod a b
+unfolding binop isZero
+by-zero-rem a b e = rw e
+
+-- what division asks of the machine
+pub div-asks : (x y a b : ℤ) → SFits w32 a → SFits w32 b → x ≡ toZ w32 (ofZ w32 a) → y ≡ toZ w32 (ofZ w32 b) → (ofZ w32 b ≡ 0 → ⊥) → (0 < ofZ w64 y) × SFits w64 (quotZ (toZ w64 (ofZ w64 x)) (toZ w64 (ofZ w64 y)))
+div-asks x y a b p q e f h =
+    let y-is : y ≡ b = f ∙ toZ-ofZ q in (
+      rw y-is (not-zero b (sfits-widen tt q) (λ n. h (ap (ofZ w32) n))),
+      op-fits quotZ quot-fits x y a b p q e f,
+    )
+
+-- ---- a FOR's step
+pub up : (v step last : ℤ) → leZ (pos 0) step ≡ true → ltZ last v ≡ passes step v last
+unfolding passes
+up v (pos n) last h = refl
+up v (negsuc n) last h = never h
+
+pub down : (v step last : ℤ) → leZ (pos 0) step ≡ false → ltZ v last ≡ passes step v last
+unfolding passes
+down v (pos n) last h = never (sym h ∙ le-leb 0 n (omega arith))
+down v (negsuc n) last h = refl
+
+-- a sum past the range passes any last value
+tight : (a b : ℕ) → a < 2147483648 → b < 2147483648 → mag (subℕ a (suc b)) ≤ 2147483647
+tight a b p q = mag-cond (ltb a (suc b)) (negsuc (suc b - suc a)) (pos (a - suc b)) 2147483647 (omega arith) (omega arith)
+
+beyond : (v step last : ℤ) → SFits w32 v → SFits w32 step → SFits w32 last → 2147483647 < mag (v +ℤ step) → passes step (v +ℤ step) last ≡ true
+unfolding passes
+beyond (pos a) (pos b) (pos c) p q r h = lt-ltb c (a + b) (omega arith)
+beyond (pos a) (pos b) (negsuc c) p q r h = refl
+beyond (negsuc a) (pos b) last p q r h = let y : ⊥ = omega (arith, tight b a (q .sfits) (p .sfits)) in absurd y
+beyond (pos a) (negsuc b) last p q r h = let y : ⊥ = omega (arith, tight a b (p .sfits) (q .sfits)) in absurd y
+beyond (negsuc a) (negsuc b) (pos c) p q r h = refl
+beyond (negsuc a) (negsuc b) (negsuc c) p q r h = lt-ltb c (suc (a + b)) (omega arith)
+
+-- a sum that does not pass is in range
+pub inside-sum : (v step last : ℤ) → SFits w32 v → SFits w32 step → SFits w32 last → passes step (v +ℤ step) last ≡ false → mag (v +ℤ step) ≤ 2147483647
+inside-sum v step last p q r e = go (leb (mag (v +ℤ step)) 2147483647) refl
+  where
+    go : (t : Bool) → leb (mag (v +ℤ step)) 2147483647 ≡ t → mag (v +ℤ step) ≤ 2147483647
+    go true h = leb-true (mag (v +ℤ step)) 2147483647 h
+    go false h = never (sym e ∙ beyond v step last p q r (leb-false (mag (v +ℤ step)) 2147483647 h))
+
+pub ends : (v step last : ℤ) → passes step (v +ℤ step) last ≡ true → Ends ≡ advanceOf v step last
+unfolding advanceOf
+ends v step last h = rw h
+
+pub steps : (v step last : ℤ) → passes step (v +ℤ step) last ≡ false → Steps (v +ℤ step) ≡ advanceOf v step last
+unfolding advanceOf
+steps v step last h = rw h
+
+-- an operation reads its two numbers back from their bits
+pub two : {A : Type 0} (op : ℤ → ℤ → A) {x y : ℤ} → SFits w32 x → SFits w32 y → op (toZ w32 (ofZ w32 x)) (toZ w32 (ofZ w32 y)) ≡ op x y
+two op f g = rw (toZ-ofZ f, toZ-ofZ g)
+
+-- ---- the bits of a number
+pub plain : (x : ℤ) → SFits w32 x → leZ (pos 0) x ≡ true → T (nonNeg x) × Fits w32 (natAbs x)
+plain (pos n) f h = let m = f .sfits in (tt, record { fits = omega arith })
+plain (negsuc n) f h = never h
+
+pub plain-is : (x : ℤ) → leZ (pos 0) x ≡ true → natAbs x ≡ toU x
+unfolding toU
+plain-is (pos n) h = refl
+plain-is (negsuc n) h = never h
+
+pub lifted : (x : ℤ) → SFits w32 x → leZ (pos 0) x ≡ false → x +ℤ pos 4294967296 ≡ pos (toU x)
+unfolding toU
+lifted (pos n) f h = never (sym h ∙ le-leb 0 n (omega arith))
+lifted (negsuc n) f h = let m = f .sfits in rw (le-ltb 4294967296 (suc n) (omega arith)) (ap pos (omega arith))
+
+pub bits-fit : (x : ℤ) → SFits w32 x → Fits w32 (toU x)
+unfolding toU
+bits-fit (pos n) f = let m = f .sfits in record { fits = omega arith }
+bits-fit (negsuc n) f = record { fits = omega arith }
+
+-- the sum that bits makes, as the machine has it
+pub lifted-is : (y x : ℤ) → SFits w32 x → leZ (pos 0) x ≡ false → y ≡ toZ w32 (ofZ w32 x) → toZ w64 (ofZ w64 y) +ℤ pos 4294967296 ≡ pos (toU x)
+lifted-is y x f h e = rw (e, toZ-ofZ f, toZ-ofZ {w = w64} (sfits-widen tt f)) (lifted x f h)
+
+pub wide-back : (x a : ℤ) → SFits w32 a → x ≡ toZ w32 (ofZ w32 a) → toZ w64 (ofZ w64 x) ≡ a
+wide-back x a f e = rw (e, toZ-ofZ f) (toZ-ofZ {w = w64} (sfits-widen tt f))
+
+pub passes-same : {s u v w l k : ℤ} → s ≡ u → v ≡ w → l ≡ k → passes s v l ≡ passes u w k
+passes-same p q r = rw (p, q, r)

@@ -1,0 +1,32 @@
+use mathlib.Core.Path.{ap, _∙_}
+use lib.Signed.{quotZ}
+use mir.Syntax.{w32}
+use mir.Val.{ofZ}
+use Rattle.rules.specs.Numbers.{dint}
+use Rattle.rules.specs.Meaning.{fit}
+use Rattle.arith.proofs.Reach.{quot-fits, op-is, zero-bits, by-zero, div-asks, div-is}
+use borrow.Author.Needs.{needs}
+use Rattle.arith.proofs.div.Statement.{statement}
+use Rattle.arith.proofs.div.Tie as tie
+
+returns : tie.Need-returns
+returns c = by-zero _ _ (zero-bits (c .before .fits .b) (c .if1 .taken))
+
+wide-requires : tie.Need-wide-requires
+wide-requires c κs = search needs
+
+wide-requires-2 : tie.Need-wide-requires-2
+wide-requires-2 c κs = search needs
+
+div-narrow : tie.Need-div-narrow
+div-narrow c = div-asks _ _ _ _ (c .before .before .before .fits .a) (c .before .before .before .fits .b) (c .before .wide .ensures) (c .wide2 .ensures) (c .before .before .if1 .left)
+
+narrow-requires : tie.Need-narrow-requires
+narrow-requires c κs = search needs
+
+returns-2 : tie.Need-returns-2
+returns-2 c = c .narrow .ensures ∙ ap (fit dint) (op-is quotZ quot-fits _ _ _ _ (c .before .before .before .before .fits .a) (c .before .before .before .before .fits .b) (c .before .before .wide .ensures) (c .before .wide2 .ensures)) ∙ div-is _ _ (λ n. c .before .before .before .if1 .left (ap (ofZ w32) n))
+
+pub div-spec : {M : Type 1} → statement M
+div-spec =
+    tie.close (tie.spec returns wide-requires wide-requires-2 div-narrow narrow-requires returns-2)
