@@ -1,10 +1,34 @@
-use mathlib.Core.Path.{sym, _∙_}
+-- `arith::advanced` meets its contract. Assumes nothing.
+use mathlib.Core.Path.{_≡_, sym, _∙_}
+use mathlib.Core.Bool.{Bool, false}
 use lib.IntN.{_+ℤ_}
+use mir.Syntax.{w32, w64}
+use mir.Val.{SFits, toZ, ofZ}
 use mir.Facts.{toZ-ofZ}
-use Rattle.arith.proofs.Reach.{add-fits, op-fits, op-is, passes-same, inside-sum, fits-in, ends, steps}
 use borrow.Author.Needs.{needs}
+use Rattle.rules.specs.Meaning.{passes}
+use Rattle.arith.proofs.Reach.{add-fits, op-fits, op-is, passes-same, inside-sum, fits-in, ends, steps}
 use Rattle.arith.proofs.advanced.Statement.{statement}
 use Rattle.arith.proofs.advanced.Tie as tie
+
+-- the sum in 64 bits is the exact sum
+sum-is : (c : tie.After-passes-wide) → let s = c .before .before .before in
+    toZ w64 (ofZ w64 (toZ w64 (ofZ w64 (c .before .before .wide .result)) +ℤ toZ w64 (ofZ w64 (c .before .wide2 .result)))) ≡ s .args .v +ℤ s .args .step
+sum-is c =
+    let s = c .before .before .before in
+    op-is _+ℤ_ add-fits _ _ _ _ (s .fits .v) (s .fits .step) (c .before .before .wide .ensures) (c .before .wide2 .ensures)
+
+-- what the test says is said of the exact sum
+tested : (c : tie.After-passes-wide) (b : Bool) → c .passes-wide .result ≡ b → let s = c .before .before .before in passes (s .args .step) (s .args .v +ℤ s .args .step) (s .args .last) ≡ b
+tested c b e =
+    let s = c .before .before .before in
+    sym (c .passes-wide .ensures ∙ passes-same (toZ-ofZ (s .fits .step)) (sum-is c) (toZ-ofZ (s .fits .last))) ∙ e
+
+-- a sum that does not pass fits
+fits : (c : tie.After-passes-wide) → c .passes-wide .result ≡ false → let s = c .before .before .before in SFits w32 (s .args .v +ℤ s .args .step)
+fits c e =
+    let s = c .before .before .before in
+    fits-in (inside-sum _ _ _ (s .fits .v) (s .fits .step) (s .fits .last) (tested c false e))
 
 wide-requires : tie.Need-wide-requires
 wide-requires c κs = search needs
@@ -19,13 +43,13 @@ passes-wide-requires : tie.Need-passes-wide-requires
 passes-wide-requires c κs = search needs
 
 returns : tie.Need-returns
-returns c = ends _ _ _ (sym (c .before .passes-wide .ensures ∙ passes-same (toZ-ofZ (c .before .before .before .before .fits .step)) (op-is _+ℤ_ add-fits _ _ _ _ (c .before .before .before .before .fits .v) (c .before .before .before .before .fits .step) (c .before .before .before .wide .ensures) (c .before .before .wide2 .ensures)) (toZ-ofZ (c .before .before .before .before .fits .last))) ∙ c .if1 .taken)
+returns c = ends _ _ _ (tested (c .before) _ (c .if1 .taken))
 
 cast-t8 : tie.Need-cast-t8
-cast-t8 c = rw (op-is _+ℤ_ add-fits _ _ _ _ (c .before .before .before .before .fits .v) (c .before .before .before .before .fits .step) (c .before .before .before .wide .ensures) (c .before .before .wide2 .ensures)) (fits-in (inside-sum _ _ _ (c .before .before .before .before .fits .v) (c .before .before .before .before .fits .step) (c .before .before .before .before .fits .last) (sym (c .before .passes-wide .ensures ∙ passes-same (toZ-ofZ (c .before .before .before .before .fits .step)) (op-is _+ℤ_ add-fits _ _ _ _ (c .before .before .before .before .fits .v) (c .before .before .before .before .fits .step) (c .before .before .before .wide .ensures) (c .before .before .wide2 .ensures)) (toZ-ofZ (c .before .before .before .before .fits .last))) ∙ c .if1 .left)))
+cast-t8 c = rw (sum-is (c .before)) (fits (c .before) (c .if1 .left))
 
 returns-2 : tie.Need-returns-2
-returns-2 c = rw ((op-is _+ℤ_ add-fits _ _ _ _ (c .before .before .before .before .fits .v) (c .before .before .before .before .fits .step) (c .before .before .before .wide .ensures) (c .before .before .wide2 .ensures)), toZ-ofZ (fits-in (inside-sum _ _ _ (c .before .before .before .before .fits .v) (c .before .before .before .before .fits .step) (c .before .before .before .before .fits .last) (sym (c .before .passes-wide .ensures ∙ passes-same (toZ-ofZ (c .before .before .before .before .fits .step)) (op-is _+ℤ_ add-fits _ _ _ _ (c .before .before .before .before .fits .v) (c .before .before .before .before .fits .step) (c .before .before .before .wide .ensures) (c .before .before .wide2 .ensures)) (toZ-ofZ (c .before .before .before .before .fits .last))) ∙ c .if1 .left)))) (steps _ _ _ (sym (c .before .passes-wide .ensures ∙ passes-same (toZ-ofZ (c .before .before .before .before .fits .step)) (op-is _+ℤ_ add-fits _ _ _ _ (c .before .before .before .before .fits .v) (c .before .before .before .before .fits .step) (c .before .before .before .wide .ensures) (c .before .before .wide2 .ensures)) (toZ-ofZ (c .before .before .before .before .fits .last))) ∙ c .if1 .left))
+returns-2 c = rw (sum-is (c .before), toZ-ofZ (fits (c .before) (c .if1 .left))) (steps _ _ _ (tested (c .before) false (c .if1 .left)))
 
 pub advanced-spec : {M : Type 1} → statement M
 advanced-spec =

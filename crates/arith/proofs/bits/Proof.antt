@@ -1,3 +1,4 @@
+-- `arith::bits` meets its contract. Assumes nothing.
 use mathlib.Core.Path.{_≡_, refl}
 use native.Mathlib.Omega.{arith}
 use lib.IntN.{pos, _+ℤ_}

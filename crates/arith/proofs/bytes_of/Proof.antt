@@ -1,3 +1,4 @@
+-- `arith::bytes_of` meets its contract. Assumes nothing.
 use Rattle.rules.specs.Bytes.{put4}
 use mathlib.Core.Path.{refl}
 use mir.Facts.{toZ-ofZ}

@@ -1,3 +1,4 @@
+-- `arith::passes` meets its contract. Assumes nothing.
 use mathlib.Core.Path.{_∙_}
 use mir.Facts.{toZ-ofZ}
 use Rattle.arith.proofs.Reach.{wide-back, passes-same}

@@ -1,3 +1,4 @@
+-- `arith::passes_wide` meets its contract. Assumes nothing.
 use mir.Facts.{toZ-ofZ}
 use Rattle.arith.proofs.Reach.{wide-back, up, down}
 use borrow.Author.Needs.{needs}

@@ -1,3 +1,4 @@
+-- `arith::rem` meets its contract. Assumes nothing.
 use mathlib.Core.Path.{ap, _∙_}
 use lib.Signed.{remZ}
 use mir.Syntax.{w32}
@@ -25,7 +26,11 @@ narrow-requires : tie.Need-narrow-requires
 narrow-requires c κs = search needs
 
 returns-2 : tie.Need-returns-2
-returns-2 c = c .narrow .ensures ∙ ap (fit dint) (op-is remZ rem-fits _ _ _ _ (c .before .before .before .before .fits .a) (c .before .before .before .before .fits .b) (c .before .before .wide .ensures) (c .before .wide2 .ensures)) ∙ rem-is _ _ (λ n. c .before .before .before .if1 .left (ap (ofZ w32) n))
+returns-2 c =
+    let s = c .before .before .before .before in
+    c .narrow .ensures
+    ∙ ap (fit dint) (op-is remZ rem-fits _ _ _ _ (s .fits .a) (s .fits .b) (c .before .before .wide .ensures) (c .before .wide2 .ensures))
+    ∙ rem-is _ _ (λ n. c .before .before .before .if1 .left (ap (ofZ w32) n))
 
 pub rem-spec : {M : Type 1} → statement M
 rem-spec =

@@ -1,3 +1,4 @@
+-- `arith::value_of` meets its contract. Assumes nothing.
 use Rattle.rules.specs.Bytes.{of4}
 use borrow.Author.Needs.{needs}
 use Rattle.arith.proofs.value_of.Statement.{statement}
