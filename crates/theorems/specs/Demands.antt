@@ -1,26 +1,30 @@
 -- The demands, on one page: what holds of every text, table and budget. Each is proved here from the laws of the other files.
 use mathlib.Core.Logic.{_≢_}
 use mathlib.Core.Path.{_≡_, refl, sym, ap}
-use mathlib.Core.Bool.{true}
+use mathlib.Core.Bool.{true, false}
 use mathlib.Core.List as L
 use mathlib.Core.List.{[], _∷_, _++_}
 use mathlib.Core.Option.{some}
 use Prim.Native.Nat.{ℕ, suc, _+_, _*_, _≤_}
 use native.Mathlib.Omega.{arith}
-use lib.IntN.{ℤ}
+use lib.IntN.{ℤ, pos, _+ℤ_}
 use lib.Dec.{leb}
 use lib.ListN.{length}
 use Rattle.rules.specs.Limits.{stackLimit, textLimit, unboundedMark}
 use Rattle.rules.specs.Base.{Res, ok, _>>=_}
+use Rattle.rules.specs.Tokens.{fold, tokensAt, Token, tokens}
+use Rattle.rules.specs.Numbers.{Ty}
 use Rattle.rules.specs.Syntax.{program}
 use Rattle.rules.specs.Core.{types, Program, Expr, List, while, repeat}
-use Rattle.rules.specs.Meaning.{Table, exec, loopW, loopR, loopF, execL}
+use Rattle.rules.specs.Meaning.{Table, passes, exec, loopW, loopR, loopF, execL}
+use Rattle.rules.specs.Worst.{passCount}
 use Rattle.rules.specs.Image.{image, Loaded, imageIn}
 use Rattle.rules.specs.Run.{runLoaded, runImage, validFor}
 use Rattle.rules.specs.Compile.{accepted, refused, compiled, answer, compile}
 use Rattle.rules.specs.Evaluate.{Told, toldBy, evaluate}
 use Rattle.theorems.specs.TicksFall.{execL-le}
 use Rattle.theorems.specs.Total.{while-fuel, repeat-fuel, for-fuel}
+use Rattle.theorems.specs.Passes.{count-none, count-last, count-more}
 use Rattle.theorems.specs.Fuel.{tokens-fuel, program-fuel}
 use Rattle.theorems.specs.Accepted.{Accepted}
 use Rattle.theorems.specs.LetterCase.{same-compiled}
@@ -31,8 +35,6 @@ use Rattle.theorems.specs.Promise.{promised, by-program}
 use Rattle.theorems.specs.Records.{reads-back}
 use Rattle.theorems.specs.Octets.{AllBelow, bytes-only}
 use Rattle.theorems.specs.Compiled.{evaluated-run, no-bad-code, few-ticks, table-kept, deep-enough, few-instructions}
-use Rattle.rules.specs.Tokens.{fold, tokensAt, Token, tokens}
-use Rattle.rules.specs.Numbers.{Ty}
 
 -- Demand 1. Evaluating ends with one answer, and a text is refused with one number and one place
 
@@ -117,6 +119,18 @@ module _ (lent capacity : ℕ) (text i : L.List ℕ) (c d w : ℕ) (yes : compil
   -- and the image is bytes
   pub image-is-bytes : AllBelow 256 i
   image-is-bytes = bytes-only lent capacity text i c d w yes
+
+-- 5, of a FOR between integers: the number of passes in its worst case is exact. From x to y by d it is none if x passes y, one if the next value
+-- does, else one more than from the next value
+
+pub passes-none : (x y d : ℤ) → passes d x y ≡ true → passCount x y d ≡ 0
+passes-none x y d e = count-none d y x e
+
+pub passes-one : (x y d : ℤ) → passes d x y ≡ false → passes d (x +ℤ d) y ≡ true → passCount x y d ≡ 1
+passes-one x y d e f = count-last d y x e f
+
+pub passes-one-more : (x y d : ℤ) → d ≢ pos 0 → passes d (x +ℤ d) y ≡ false → passCount x y d ≡ suc (passCount (x +ℤ d) y d)
+passes-one-more x y d n e = count-more d y x n e
 
 -- 8. Blanks, comments, letter case and the program's name: two texts whose tokens are the same up to places and the program's name have
 -- the same answer but for the place of a refusal, so the same image byte for byte (both within the text limit, or both over it)
