@@ -31,8 +31,7 @@ pub mod Promise
 pub mod Records
 pub mod Octets
 pub mod Compiled
--- The readers: laws of reading, enough fuel, no look at places or the program's name, and every refusal in the list
-pub mod ReaderLaws
+-- The readers: enough fuel, no look at places or the program's name, and every refusal in the list
 pub mod Alike
 pub mod Pieces
 pub mod Fuel

@@ -174,7 +174,3 @@ mutual
   grpIn : (f n m : ℕ) → m ≤ 8 → Always (InG m) (groups f n m)
   grpIn zero n m h = record { always = λ ts us a e. nothing 5 0 a us e }
   grpIn (suc f) n m h = record { always = λ ts us a e. group-in m h (expr f 0 1) (labels f) (listIn f n m h) (grpIn f n m h) .always ts us a e }
-
--- a whole program
-pub at-most-8 : (f n : ℕ) (ts us : L.List Token) (l : Stms) → list f n 0 ts ≡ got l us → forsL l ≤ 8
-at-most-8 f n ts us l e = let h = listIn f n 0 (omega arith) .always ts us l e in omega arith
