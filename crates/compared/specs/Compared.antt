@@ -48,7 +48,6 @@ cases0 =
     image (5 ∷ 0 ∷ 1 ∷ 0 ∷ 1 ∷ 1 ∷ 0 ∷ 0 ∷ 0 ∷ 66 ∷ 0 ∷ 2 ∷ 0 ∷ 1 ∷ 3 ∷ 0 ∷ 16 ∷ 1 ∷ 1 ∷ 5 ∷ 111 ∷ 1 ∷ 8 ∷ 1 ∷ 18 ∷ 2 ∷ 1 ∷ 0 ∷ 0 ∷ 128 ∷ 28 ∷ 8 ∷ 0 ∷ 6 ∷ 0 ∷ 0 ∷ 0 ∷ 0 ∷ 0 ∷ 24 ∷ 50 ∷ 0 ∷ 93 ∷ 26 ∷ 8 ∷ 1 ∷ 11 ∷ 13 ∷ 14 ∷ 3 ∷ 0 ∷ 2 ∷ 17 ∷ 0 ∷ 0 ∷ 0 ∷ 2 ∷ 236 ∷ 255 ∷ 255 ∷ 255 ∷ 5 ∷ 2 ∷ 254 ∷ 255 ∷ 255 ∷ 255 ∷ 3 ∷ 0 ∷ 24 ∷ 5 ∷ 0 ∷ 26 ∷ 7 ∷ 1 ∷ 1 ∷ 21 ∷ 22 ∷ 0 ∷ 6 ∷ 0 ∷ 3 ∷ 0 ∷ 38 ∷ 0 ∷ 66 ∷ 85 ∷ 17 ∷ 25 ∷ []) (pos 1 ∷ []) 11 (report 25 1 2 3 (pos 1 ∷ [])) ∷
     compiling (bytes "PROGRAM P VAR A:DINT; B:DINT; C:DINT; I:DINT; X:BOOL; END_VAR\nFOR I:=1 TO 1+1*(1+1*(1+1*(1+1*(1+1*(1+1*(1+1*(1+1*(1+1*(1+1*(1+1*(1+1*(1+1*(1+1*(1+1*(1+1))))))))))))))) BY 0 DO END_FOR;\nEND_PROGRAM") (refused 10 74) ∷
     image (20 ∷ 0 ∷ 1 ∷ 0 ∷ 2 ∷ 20 ∷ 0 ∷ 0 ∷ 0 ∷ 1 ∷ 1 ∷ 0 ∷ 0 ∷ 0 ∷ 2 ∷ 14 ∷ 0 ∷ 0 ∷ 0 ∷ 2 ∷ 92 ∷ 199 ∷ 34 ∷ 180 ∷ 24 ∷ 0 ∷ 2 ∷ 0 ∷ 16 ∷ 20 ∷ 21 ∷ 0 ∷ 0 ∷ 15 ∷ 24 ∷ 9 ∷ 0 ∷ 28 ∷ 5 ∷ 0 ∷ 1 ∷ 0 ∷ 0 ∷ 0 ∷ 16 ∷ 0 ∷ 18 ∷ 2 ∷ 238 ∷ 255 ∷ 255 ∷ 255 ∷ 6 ∷ 0 ∷ 3 ∷ 0 ∷ 42 ∷ 0 ∷ 54 ∷ 166 ∷ 206 ∷ 15 ∷ []) (pos 2147483647 ∷ pos 1 ∷ pos 0 ∷ pos 2147483646 ∷ []) 176 (report 25 0 0 0 (pos 2147483647 ∷ pos 1 ∷ pos 0 ∷ pos 2147483646 ∷ [])) ∷
-    meaningAt 55 (bytes " PROGRAM LF VAR KZZZ0AX_9AA_A_XZ0Z0_9X99XZ0_Z : DINT ; INT : DINT := + 17 ; A : BOOL ; QAX_X_0XX0X : DINT ; QAXXA9XZXZX_XX : DINT ; _ZAA_ZZAXX : DINT ; RETURN : BOOL ; _1 : DINT ; LF : BOOL := TRUE ; B : DINT := - 20 ; QXZ_9_99AA9X0AAX99AZ9_A_XA : BOOL ; END : BOOL := FALSE ; KZ : DINT ; I : DINT ; _ZX0909XXZA : DINT ; Q_AXA9XAXA9 : DINT := 16#1 ; _Z : DINT ; Q99_X : DINT := - 8#7234446623 ; K90Z900_0XX009ZA0 : DINT ; _ZZA9 : DINT ; _Z0ZA : BOOL ; K0_Z_9X99XZXA9Z0Z00ZZ9_AAZZ : DINT := - 16#3 ; _ZX_9_A_A09ZXAZ : DINT ; K_X9_AZZ0XX_ZAX9 : DINT ; QX90ZAXZX90Z9Z9ZAX9AA_A_Z_A : DINT ; QZ_XXAX99 : BOOL := TRUE ; KZ0ZZAZ9XXZX999AX900_AX : DINT ; KZ_0ZZ_ZZ_Z9AZ9Z : DINT ; Q0A90Z0_XXZ_Z_XA : DINT ; Q_Z_9ZX0_X_A9_AA09X0X0AZ9 : BOOL ; KZ90A9 : DINT := 12 ; K9X99ZX_ZA_9X0Z_X0_AZ : DINT ; K0X9AA_AA0Z_9ZX0_000ZZ00A_0_A : DINT ; Q9_9AXZ : BOOL ; _ZA0A0_9XX0_XZ_Z09X : DINT ; Q0A_00A9Z0_XA_ZX_09Z09X9X : DINT ; _ZXAXZ_90XX_Z0_090 : DINT := 8#24 ; QZX_A_XZZ90AXX00 : DINT ; QZ_XZ : DINT ; K_AAA9_X_0A : DINT ; _ZAZ9X : DINT ; Q_90_XA990_09_0A9XA_ZXX0_XZX9AZ : BOOL := TRUE ; Q_XZZXZ_A0AZ_900X9X9ZZ9ZX : DINT ; KA9X_AZ0Z : DINT := 16 ; KAXAA00ZAZ9XA0ZA_9XXX : DINT ; K_ZZ0_AX09X_AX9_9_09_ZA_9A : DINT ; _Z_A_A99X_99 : DINT ; KAZ_9XAA_0_X_AXX990990 : BOOL ; _Z_X9A0A0_XX00_Z_XX_0ZA9AXX_AXX : BOOL := TRUE ; KXZ90XXAZA : DINT ; _ZAXX_XZA_0_AZ99ZZ_AAZA : BOOL ; Q_000XZ : DINT ; QA0_990Z9_9 : DINT ; QAA_Z0Z9AAXAAZX0_X_ZXA_X_0X90A : DINT ; K_90_XZAZX09A0X900ZX0_XA900 : BOOL ; KZ9_ZA_X00Z_ZXZZ_X_A_X_9X9 : BOOL ; K_Z9Z9_99X : DINT := 1 ; _ZA_Z9Z_909ZX_AZA00AZ : DINT ; K9ZAXX9XX_ZA0ZZAA90_ZAAAAZX_Z0 : DINT ; _Z0AAA0A0Z_AZ00X999_AAX90AX : DINT ; Q_Z_999009A_A0AZ_AZ_AZ : DINT := - 214748_3647 ; KZX_X0_Z9XZZ0Z9XA_ZXXZ09X0A009 : DINT := 2#10011 ; QXZZXX90_X : BOOL ; K_AZAZAAAX_X_X9 : DINT ; END_VAR END_PROGRAM") (negsuc 5 ∷ negsuc 2147483647 ∷ pos 1 ∷ pos 1 ∷ negsuc 14 ∷ pos 1 ∷ pos 0 ∷ negsuc 0 ∷ pos 0 ∷ negsuc 477953236 ∷ pos 0 ∷ pos 0 ∷ negsuc 7 ∷ negsuc 2147483647 ∷ pos 2147483647 ∷ pos 1 ∷ pos 0 ∷ negsuc 1 ∷ negsuc 1213381307 ∷ pos 1 ∷ pos 0 ∷ pos 13 ∷ pos 15 ∷ pos 1 ∷ negsuc 15 ∷ pos 0 ∷ pos 0 ∷ pos 1 ∷ pos 0 ∷ pos 1 ∷ negsuc 14 ∷ pos 0 ∷ pos 1 ∷ pos 0 ∷ negsuc 9 ∷ negsuc 17 ∷ pos 14 ∷ pos 1 ∷ pos 1 ∷ pos 0 ∷ pos 332483829 ∷ pos 1 ∷ pos 0 ∷ pos 0 ∷ pos 2147483647 ∷ negsuc 24037312 ∷ pos 6 ∷ pos 0 ∷ pos 1 ∷ pos 0 ∷ pos 1 ∷ pos 0 ∷ negsuc 1774171030 ∷ negsuc 0 ∷ pos 0 ∷ pos 0 ∷ negsuc 19 ∷ pos 18 ∷ negsuc 301708409 ∷ negsuc 0 ∷ negsuc 8 ∷ negsuc 2147483646 ∷ pos 0 ∷ negsuc 0 ∷ []) 0 0 (negsuc 5 ∷ negsuc 2147483647 ∷ pos 1 ∷ pos 1 ∷ negsuc 14 ∷ pos 1 ∷ pos 0 ∷ negsuc 0 ∷ pos 0 ∷ negsuc 477953236 ∷ pos 0 ∷ pos 0 ∷ negsuc 7 ∷ negsuc 2147483647 ∷ pos 2147483647 ∷ pos 1 ∷ pos 0 ∷ negsuc 1 ∷ negsuc 1213381307 ∷ pos 1 ∷ pos 0 ∷ pos 13 ∷ pos 15 ∷ pos 1 ∷ negsuc 15 ∷ pos 0 ∷ pos 0 ∷ pos 1 ∷ pos 0 ∷ pos 1 ∷ negsuc 14 ∷ pos 0 ∷ pos 1 ∷ pos 0 ∷ negsuc 9 ∷ negsuc 17 ∷ pos 14 ∷ pos 1 ∷ pos 1 ∷ pos 0 ∷ pos 332483829 ∷ pos 1 ∷ pos 0 ∷ pos 0 ∷ pos 2147483647 ∷ negsuc 24037312 ∷ pos 6 ∷ pos 0 ∷ pos 1 ∷ pos 0 ∷ pos 1 ∷ pos 0 ∷ negsuc 1774171030 ∷ negsuc 0 ∷ pos 0 ∷ pos 0 ∷ negsuc 19 ∷ pos 18 ∷ negsuc 301708409 ∷ negsuc 0 ∷ negsuc 8 ∷ negsuc 2147483646 ∷ pos 0 ∷ negsuc 0 ∷ []) ∷
     image (0 ∷ 0 ∷ 1 ∷ 0 ∷ 139 ∷ 0 ∷ 2 ∷ 0 ∷ 1 ∷ 2 ∷ 5 ∷ 0 ∷ 0 ∷ 0 ∷ 2 ∷ 7 ∷ 0 ∷ 0 ∷ 0 ∷ 2 ∷ 3 ∷ 0 ∷ 0 ∷ 0 ∷ 8 ∷ 11 ∷ 23 ∷ 172 ∷ 249 ∷ 139 ∷ 105 ∷ 172 ∷ 249 ∷ 139 ∷ 105 ∷ 24 ∷ 57 ∷ 0 ∷ 23 ∷ 46 ∷ 175 ∷ 13 ∷ 124 ∷ 255 ∷ 255 ∷ 255 ∷ 127 ∷ 24 ∷ 57 ∷ 0 ∷ 23 ∷ 16 ∷ 0 ∷ 0 ∷ 0 ∷ 16 ∷ 0 ∷ 0 ∷ 0 ∷ 24 ∷ 57 ∷ 0 ∷ 21 ∷ 61 ∷ 0 ∷ 25 ∷ 21 ∷ 138 ∷ 0 ∷ 23 ∷ 0 ∷ 0 ∷ 0 ∷ 0 ∷ 0 ∷ 0 ∷ 0 ∷ 0 ∷ 24 ∷ 76 ∷ 0 ∷ 21 ∷ 118 ∷ 0 ∷ 25 ∷ 1 ∷ 2 ∷ 3 ∷ 0 ∷ 0 ∷ 0 ∷ 2 ∷ 4 ∷ 0 ∷ 0 ∷ 0 ∷ 2 ∷ 0 ∷ 0 ∷ 0 ∷ 0 ∷ 7 ∷ 15 ∷ 22 ∷ 101 ∷ 0 ∷ 21 ∷ 115 ∷ 0 ∷ 2 ∷ 3 ∷ 0 ∷ 0 ∷ 0 ∷ 2 ∷ 5 ∷ 181 ∷ 0 ∷ 0 ∷ 17 ∷ 22 ∷ 115 ∷ 0 ∷ 21 ∷ 138 ∷ 0 ∷ 23 ∷ 4 ∷ 0 ∷ 0 ∷ 0 ∷ 4 ∷ 0 ∷ 0 ∷ 0 ∷ 24 ∷ 133 ∷ 0 ∷ 21 ∷ 137 ∷ 0 ∷ 25 ∷ 21 ∷ 138 ∷ 0 ∷ 25 ∷ 29 ∷ 6 ∷ 0 ∷ 3 ∷ 0 ∷ 3 ∷ 0 ∷ 2 ∷ 0 ∷ 0 ∷ 0 ∷ []) (pos 0 ∷ []) 47 (report 24 0 0 0 (pos 0 ∷ [])) ∷
     compiling (bytes "PROGRAM A VAR\n_Z9X_ZAA_0:DINT;A>BOOL;KZ:DINT;QZ_ZZZX:DINT;END_VAR IF\u{c}A\tTHEN A:= -2-KZ-KZ:KZ;ELSE\rREPEAT\u{c}UNTIL\rA\u{c}END_REPEAT;END_IF;END_PROGRAM") (refused 5 31) ∷
     meaningAt 24 (bytes "PROGRAM LF\u{c}VAR\u{c}LF:DINT:= -8#4;_ZZA0:DINT;END_VAR LF:=LF;;LF:=10/001*(LF\u{c}MOD _ZZA0)MOD\t2#101;_ZZA0:=_ZZA0+2;END_PROGRAM\t \n") (pos 13 ∷ pos 0 ∷ []) 22 2 (pos 13 ∷ pos 0 ∷ []) ∷
@@ -109,11 +108,11 @@ cases0 =
     compiling (bytes "PROGRAMQXZ99AA_X_Z90_Z99A_9AZX\u{c}VAR\t_Z:BOOL;END:BOOL;LF:BOOL;B:DINT:=1;QX0X09Z0X0AA0Z9X_X0A:BOOL;K9_0X9Z_A9_XZA:DINT:=1;A:DINT;_Z000ZZXAA_A0:DINT;QZ_Z") (refused 5 0) ∷
     compiling (80 ∷ 82 ∷ 149 ∷ 71 ∷ 82 ∷ 65 ∷ 77 ∷ 35 ∷ 75 ∷ 95 ∷ 48 ∷ 48 ∷ 48 ∷ 88 ∷ 88 ∷ 57 ∷ 88 ∷ 95 ∷ 65 ∷ 48 ∷ 90 ∷ 95 ∷ 90 ∷ 90 ∷ 57 ∷ 88 ∷ 57 ∷ 57 ∷ 48 ∷ 48 ∷ 95 ∷ 65 ∷ 65 ∷ 65 ∷ 65 ∷ 90 ∷ 32 ∷ 86 ∷ 65 ∷ 82 ∷ 32 ∷ 81 ∷ 90 ∷ 88 ∷ 57 ∷ 57 ∷ 65 ∷ 95 ∷ 65 ∷ 57 ∷ 88 ∷ 57 ∷ 65 ∷ 90 ∷ 88 ∷ 48 ∷ 65 ∷ 95 ∷ 88 ∷ 95 ∷ 48 ∷ 48 ∷ 65 ∷ 65 ∷ 65 ∷ 90 ∷ 95 ∷ 57 ∷ 65 ∷ 95 ∷ 65 ∷ 58 ∷ 66 ∷ 79 ∷ 79 ∷ 76 ∷ 59 ∷ 76 ∷ 70 ∷ 58 ∷ 66 ∷ 79 ∷ 79 ∷ 76 ∷ 58 ∷ 61 ∷ 84 ∷ 82 ∷ 85 ∷ 69 ∷ 59 ∷ 95 ∷ 49 ∷ 58 ∷ 68 ∷ 73 ∷ 78 ∷ 84 ∷ 58 ∷ 61 ∷ 56 ∷ 35 ∷ 49 ∷ 59 ∷ 82 ∷ 69 ∷ 84 ∷ 85 ∷ 82 ∷ 78 ∷ 58 ∷ 68 ∷ 73 ∷ 78 ∷ 84 ∷ 59 ∷ 75 ∷ 90 ∷ 88 ∷ 48 ∷ 95 ∷ 57 ∷ 48 ∷ 95 ∷ 90 ∷ 95 ∷ 57 ∷ 57 ∷ 57 ∷ 95 ∷ 90 ∷ 58 ∷ 66 ∷ 79 ∷ 79 ∷ 76 ∷ 58 ∷ 61 ∷ 84 ∷ 82 ∷ 85 ∷ 69 ∷ 59 ∷ 73 ∷ 78 ∷ 84 ∷ 58 ∷ 68 ∷ 73 ∷ 78 ∷ 84 ∷ 59 ∷ 69 ∷ 78 ∷ 68 ∷ 58 ∷ 68 ∷ 73 ∷ 78 ∷ 84 ∷ 59 ∷ 69 ∷ 78 ∷ 68 ∷ 95 ∷ 86 ∷ 65 ∷ 82 ∷ 10 ∷ 73 ∷ 78 ∷ 84 ∷ 58 ∷ 61 ∷ 82 ∷ 69 ∷ 84 ∷ 85 ∷ 82 ∷ 78 ∷ 59 ∷ 95 ∷ 49 ∷ 58 ∷ 61 ∷ 56 ∷ 35 ∷ 49 ∷ 49 ∷ 59 ∷ 95 ∷ 49 ∷ 58 ∷ 61 ∷ 95 ∷ 49 ∷ 43 ∷ 49 ∷ 59 ∷ 73 ∷ 78 ∷ 84 ∷ 58 ∷ 61 ∷ 73 ∷ 78 ∷ 84 ∷ 45 ∷ 49 ∷ 59 ∷ 95 ∷ 49 ∷ 58 ∷ 61 ∷ 50 ∷ 35 ∷ 48 ∷ 59 ∷ 76 ∷ 70 ∷ 58 ∷ 61 ∷ 78 ∷ 79 ∷ 84 ∷ 40 ∷ 78 ∷ 79 ∷ 84 ∷ 40 ∷ 81 ∷ 90 ∷ 88 ∷ 57 ∷ 57 ∷ 65 ∷ 95 ∷ 65 ∷ 57 ∷ 88 ∷ 57 ∷ 65 ∷ 90 ∷ 88 ∷ 48 ∷ 65 ∷ 95 ∷ 88 ∷ 95 ∷ 48 ∷ 48 ∷ 65 ∷ 65 ∷ 65 ∷ 90 ∷ 95 ∷ 57 ∷ 65 ∷ 95 ∷ 65 ∷ 10 ∷ 65 ∷ 78 ∷ 68 ∷ 40 ∷ 81 ∷ 90 ∷ 88 ∷ 57 ∷ 57 ∷ 65 ∷ 95 ∷ 65 ∷ 57 ∷ 88 ∷ 57 ∷ 65 ∷ 90 ∷ 88 ∷ 48 ∷ 65 ∷ 95 ∷ 88 ∷ 95 ∷ 48 ∷ 48 ∷ 65 ∷ 65 ∷ 65 ∷ 90 ∷ 95 ∷ 57 ∷ 65 ∷ 95 ∷ 65 ∷ 38 ∷ 81 ∷ 90 ∷ 88 ∷ 57 ∷ 57 ∷ 65 ∷ 95 ∷ 65 ∷ 57 ∷ 88 ∷ 57 ∷ 65 ∷ 90 ∷ 88 ∷ 48 ∷ 65 ∷ 95 ∷ 88 ∷ 95 ∷ 48 ∷ 48 ∷ 65 ∷ 65 ∷ 65 ∷ 90 ∷ 95 ∷ 57 ∷ 65 ∷ 95 ∷ 65 ∷ 41 ∷ 41 ∷ 41 ∷ 59 ∷ 69 ∷ 78 ∷ 68 ∷ 95 ∷ 80 ∷ 82 ∷ 79 ∷ 71 ∷ 82 ∷ 65 ∷ 77 ∷ []) (refused 2 2) ∷
     image (5 ∷ 0 ∷ 1 ∷ 0 ∷ 2 ∷ 16 ∷ 0 ∷ 0 ∷ 0 ∷ 48 ∷ 0 ∷ 2 ∷ 0 ∷ 1 ∷ 3 ∷ 0 ∷ 2 ∷ 3 ∷ 0 ∷ 0 ∷ 0 ∷ 9 ∷ 2 ∷ 2 ∷ 0 ∷ 0 ∷ 0 ∷ 2 ∷ 6 ∷ 0 ∷ 0 ∷ 0 ∷ 8 ∷ 14 ∷ 22 ∷ 24 ∷ 0 ∷ 1 ∷ 2 ∷ 8 ∷ 0 ∷ 0 ∷ 0 ∷ 2 ∷ 8 ∷ 0 ∷ 0 ∷ 0 ∷ 2 ∷ 9 ∷ 0 ∷ 0 ∷ 0 ∷ 10 ∷ 7 ∷ 3 ∷ 0 ∷ 9 ∷ 4 ∷ 0 ∷ 29 ∷ 6 ∷ 0 ∷ 3 ∷ 0 ∷ 3 ∷ 0 ∷ 2 ∷ 0 ∷ 0 ∷ 0 ∷ []) (negsuc 1237312756 ∷ []) 5 (report 0 2 19 47 (pos 136 ∷ [])) ∷
+    compiling (bytes "program\t\t\u{c}I\t\rVaR\u{c}\n\tB :dinT;_1:DINT;i\u{c}\r:dINT\n\r:=2147483647;\r_Z_x09a_999a_0Z_zz:\tBOOL \u{c}\r:=true\u{c}\n;  END_VAR\u{c} \u{c}b:=\rB\n-\u{c}\r1; for\u{c}(* *)b:= (* x \" *)8#0_02\u{c}to-\r8#3\rdo\n\n\u{c}END_foR;\r(* *)\u{c}_1:=16#A\r\n-\n(\nb\t(* ** (*(**)*) *));case( \u{c}\u{c}-(((\t(B\u{c}\n\u{c})\u{c})\n*\n\u{c}\t+(_1/\r\u{c}\t2#101)\u{c})mod  \r8  \t) \t(* *)) \rmod(_1\u{c}MOD(\t\t\nb*\n(8#4\n *(\n \t(16#a))\n\n))  \t+8#10-b)-\n///*\u{c}_1\n\t\u{c}OF-16#1..2147483646:\t_1:=\u{c}b\t;enD_casE;REPEAT \t_1:=\r\rI\n\t(*  //  x *)+_1;UNTiL \t_z_x09a_999a_0z_zz\u{c} END_REPEAT;WHiLE \t_Z_X09a_999a_0Z_Zz\n\nor\t_z_x09a_999a_0z_zz\r\nDO\n\u{c}(* (* *) (*)*) *)CaSE\r16#B\rof // (* \u{c}\n8#17777777777..8#0017777777777\r(* x ** *),-\n(* *)8#1:\n(* (* *) *)\u{c}6\n ..6\u{c}\t(* *):end_case;eNd_WHilE\t\r ;end_program\n\n") (accepted (20 ∷ 0 ∷ 1 ∷ 0 ∷ 2 ∷ 0 ∷ 0 ∷ 0 ∷ 0 ∷ 2 ∷ 0 ∷ 0 ∷ 0 ∷ 0 ∷ 2 ∷ 255 ∷ 255 ∷ 255 ∷ 127 ∷ 1 ∷ 1 ∷ 0 ∷ 0 ∷ 0 ∷ 215 ∷ 0 ∷ 2 ∷ 0 ∷ 1 ∷ 3 ∷ 0 ∷ 2 ∷ 1 ∷ 0 ∷ 0 ∷ 0 ∷ 11 ∷ 4 ∷ 0 ∷ 1 ∷ 2 ∷ 2 ∷ 0 ∷ 0 ∷ 0 ∷ 2 ∷ 3 ∷ 0 ∷ 0 ∷ 0 ∷ 5 ∷ 26 ∷ 0 ∷ 4 ∷ 0 ∷ 27 ∷ 0 ∷ 0 ∷ 1 ∷ 0 ∷ 0 ∷ 0 ∷ 46 ∷ 0 ∷ 1 ∷ 28 ∷ 0 ∷ 0 ∷ 1 ∷ 0 ∷ 0 ∷ 0 ∷ 36 ∷ 0 ∷ 1 ∷ 2 ∷ 10 ∷ 0 ∷ 0 ∷ 0 ∷ 3 ∷ 0 ∷ 11 ∷ 4 ∷ 1 ∷ 1 ∷ 3 ∷ 0 ∷ 3 ∷ 1 ∷ 2 ∷ 5 ∷ 0 ∷ 0 ∷ 0 ∷ 8 ∷ 7 ∷ 2 ∷ 8 ∷ 0 ∷ 0 ∷ 0 ∷ 9 ∷ 5 ∷ 3 ∷ 1 ∷ 3 ∷ 0 ∷ 2 ∷ 4 ∷ 0 ∷ 0 ∷ 0 ∷ 2 ∷ 10 ∷ 0 ∷ 0 ∷ 0 ∷ 7 ∷ 7 ∷ 9 ∷ 2 ∷ 8 ∷ 0 ∷ 0 ∷ 0 ∷ 10 ∷ 3 ∷ 0 ∷ 11 ∷ 9 ∷ 3 ∷ 1 ∷ 11 ∷ 23 ∷ 255 ∷ 255 ∷ 255 ∷ 255 ∷ 254 ∷ 255 ∷ 255 ∷ 127 ∷ 24 ∷ 121 ∷ 0 ∷ 21 ∷ 130 ∷ 0 ∷ 25 ∷ 1 ∷ 3 ∷ 0 ∷ 4 ∷ 1 ∷ 21 ∷ 131 ∷ 0 ∷ 25 ∷ 1 ∷ 1 ∷ 3 ∷ 2 ∷ 3 ∷ 1 ∷ 10 ∷ 4 ∷ 1 ∷ 3 ∷ 3 ∷ 22 ∷ 131 ∷ 0 ∷ 1 ∷ 3 ∷ 3 ∷ 3 ∷ 3 ∷ 20 ∷ 22 ∷ 214 ∷ 0 ∷ 1 ∷ 2 ∷ 11 ∷ 0 ∷ 0 ∷ 0 ∷ 23 ∷ 255 ∷ 255 ∷ 255 ∷ 127 ∷ 255 ∷ 255 ∷ 255 ∷ 127 ∷ 24 ∷ 187 ∷ 0 ∷ 23 ∷ 255 ∷ 255 ∷ 255 ∷ 255 ∷ 255 ∷ 255 ∷ 255 ∷ 255 ∷ 24 ∷ 187 ∷ 0 ∷ 21 ∷ 191 ∷ 0 ∷ 25 ∷ 21 ∷ 211 ∷ 0 ∷ 23 ∷ 6 ∷ 0 ∷ 0 ∷ 0 ∷ 6 ∷ 0 ∷ 0 ∷ 0 ∷ 24 ∷ 206 ∷ 0 ∷ 21 ∷ 210 ∷ 0 ∷ 25 ∷ 21 ∷ 211 ∷ 0 ∷ 25 ∷ 21 ∷ 145 ∷ 0 ∷ 29 ∷ 6 ∷ 0 ∷ 3 ∷ 0 ∷ 5 ∷ 0 ∷ 255 ∷ 255 ∷ 255 ∷ 255 ∷ []) 215 5 4294967295) ∷
     []
 
 cases1 : List Case
 cases1 =
-    compiling (bytes "program\t\t\u{c}I\t\rVaR\u{c}\n\tB :dinT;_1:DINT;i\u{c}\r:dINT\n\r:=2147483647;\r_Z_x09a_999a_0Z_zz:\tBOOL \u{c}\r:=true\u{c}\n;  END_VAR\u{c} \u{c}b:=\rB\n-\u{c}\r1; for\u{c}(* *)b:= (* x \" *)8#0_02\u{c}to-\r8#3\rdo\n\n\u{c}END_foR;\r(* *)\u{c}_1:=16#A\r\n-\n(\nb\t(* ** (*(**)*) *));case( \u{c}\u{c}-(((\t(B\u{c}\n\u{c})\u{c})\n*\n\u{c}\t+(_1/\r\u{c}\t2#101)\u{c})mod  \r8  \t) \t(* *)) \rmod(_1\u{c}MOD(\t\t\nb*\n(8#4\n *(\n \t(16#a))\n\n))  \t+8#10-b)-\n///*\u{c}_1\n\t\u{c}OF-16#1..2147483646:\t_1:=\u{c}b\t;enD_casE;REPEAT \t_1:=\r\rI\n\t(*  //  x *)+_1;UNTiL \t_z_x09a_999a_0z_zz\u{c} END_REPEAT;WHiLE \t_Z_X09a_999a_0Z_Zz\n\nor\t_z_x09a_999a_0z_zz\r\nDO\n\u{c}(* (* *) (*)*) *)CaSE\r16#B\rof // (* \u{c}\n8#17777777777..8#0017777777777\r(* x ** *),-\n(* *)8#1:\n(* (* *) *)\u{c}6\n ..6\u{c}\t(* *):end_case;eNd_WHilE\t\r ;end_program\n\n") (accepted (20 ∷ 0 ∷ 1 ∷ 0 ∷ 2 ∷ 0 ∷ 0 ∷ 0 ∷ 0 ∷ 2 ∷ 0 ∷ 0 ∷ 0 ∷ 0 ∷ 2 ∷ 255 ∷ 255 ∷ 255 ∷ 127 ∷ 1 ∷ 1 ∷ 0 ∷ 0 ∷ 0 ∷ 215 ∷ 0 ∷ 2 ∷ 0 ∷ 1 ∷ 3 ∷ 0 ∷ 2 ∷ 1 ∷ 0 ∷ 0 ∷ 0 ∷ 11 ∷ 4 ∷ 0 ∷ 1 ∷ 2 ∷ 2 ∷ 0 ∷ 0 ∷ 0 ∷ 2 ∷ 3 ∷ 0 ∷ 0 ∷ 0 ∷ 5 ∷ 26 ∷ 0 ∷ 4 ∷ 0 ∷ 27 ∷ 0 ∷ 0 ∷ 1 ∷ 0 ∷ 0 ∷ 0 ∷ 46 ∷ 0 ∷ 1 ∷ 28 ∷ 0 ∷ 0 ∷ 1 ∷ 0 ∷ 0 ∷ 0 ∷ 36 ∷ 0 ∷ 1 ∷ 2 ∷ 10 ∷ 0 ∷ 0 ∷ 0 ∷ 3 ∷ 0 ∷ 11 ∷ 4 ∷ 1 ∷ 1 ∷ 3 ∷ 0 ∷ 3 ∷ 1 ∷ 2 ∷ 5 ∷ 0 ∷ 0 ∷ 0 ∷ 8 ∷ 7 ∷ 2 ∷ 8 ∷ 0 ∷ 0 ∷ 0 ∷ 9 ∷ 5 ∷ 3 ∷ 1 ∷ 3 ∷ 0 ∷ 2 ∷ 4 ∷ 0 ∷ 0 ∷ 0 ∷ 2 ∷ 10 ∷ 0 ∷ 0 ∷ 0 ∷ 7 ∷ 7 ∷ 9 ∷ 2 ∷ 8 ∷ 0 ∷ 0 ∷ 0 ∷ 10 ∷ 3 ∷ 0 ∷ 11 ∷ 9 ∷ 3 ∷ 1 ∷ 11 ∷ 23 ∷ 255 ∷ 255 ∷ 255 ∷ 255 ∷ 254 ∷ 255 ∷ 255 ∷ 127 ∷ 24 ∷ 121 ∷ 0 ∷ 21 ∷ 130 ∷ 0 ∷ 25 ∷ 1 ∷ 3 ∷ 0 ∷ 4 ∷ 1 ∷ 21 ∷ 131 ∷ 0 ∷ 25 ∷ 1 ∷ 1 ∷ 3 ∷ 2 ∷ 3 ∷ 1 ∷ 10 ∷ 4 ∷ 1 ∷ 3 ∷ 3 ∷ 22 ∷ 131 ∷ 0 ∷ 1 ∷ 3 ∷ 3 ∷ 3 ∷ 3 ∷ 20 ∷ 22 ∷ 214 ∷ 0 ∷ 1 ∷ 2 ∷ 11 ∷ 0 ∷ 0 ∷ 0 ∷ 23 ∷ 255 ∷ 255 ∷ 255 ∷ 127 ∷ 255 ∷ 255 ∷ 255 ∷ 127 ∷ 24 ∷ 187 ∷ 0 ∷ 23 ∷ 255 ∷ 255 ∷ 255 ∷ 255 ∷ 255 ∷ 255 ∷ 255 ∷ 255 ∷ 24 ∷ 187 ∷ 0 ∷ 21 ∷ 191 ∷ 0 ∷ 25 ∷ 21 ∷ 211 ∷ 0 ∷ 23 ∷ 6 ∷ 0 ∷ 0 ∷ 0 ∷ 6 ∷ 0 ∷ 0 ∷ 0 ∷ 24 ∷ 206 ∷ 0 ∷ 21 ∷ 210 ∷ 0 ∷ 25 ∷ 21 ∷ 211 ∷ 0 ∷ 25 ∷ 21 ∷ 145 ∷ 0 ∷ 29 ∷ 6 ∷ 0 ∷ 3 ∷ 0 ∷ 5 ∷ 0 ∷ 255 ∷ 255 ∷ 255 ∷ 255 ∷ []) 215 5 4294967295) ∷
     image (5 ∷ 0 ∷ 1 ∷ 0 ∷ 2 ∷ 238 ∷ 255 ∷ 255 ∷ 255 ∷ 43 ∷ 0 ∷ 2 ∷ 0 ∷ 29 ∷ 1 ∷ 22 ∷ 12 ∷ 0 ∷ 19 ∷ 9 ∷ 2 ∷ 7 ∷ 0 ∷ 0 ∷ 0 ∷ 1 ∷ 2 ∷ 60 ∷ 208 ∷ 200 ∷ 103 ∷ 3 ∷ 0 ∷ 1 ∷ 95 ∷ 5 ∷ 18 ∷ 20 ∷ 12 ∷ 21 ∷ 120 ∷ 70 ∷ 15 ∷ 18 ∷ 3 ∷ 0 ∷ 1 ∷ 27 ∷ 4 ∷ 0 ∷ 245 ∷ 255 ∷ 255 ∷ 255 ∷ 16 ∷ 0 ∷ 6 ∷ 0 ∷ 3 ∷ 0 ∷ 13 ∷ 0 ∷ 245 ∷ 251 ∷ 238 ∷ 235 ∷ []) (pos 1 ∷ []) 2 (report 0 0 1 0 (pos 1 ∷ [])) ∷
     compiling (bytes " PROGRAM INT VAR _Z_X0Z_ZA9_9_A9XZ_XZZ0AAA : DINT ; INT : BOOL ; _1 : DINT ; LF : DINT ; END_VAR _Z_X0Z_ZA9_9_A9XZ_XZZ0AAA := LF ; INT := INT XOR LF >= _1 XOR INT ; LF := _1 MOD LF ; INT := INT ; _Z_X0Z_ZA9_9_A9XZ_XZZ0AAA := LF ; INT := INT ; INT := INT = ( NOT ( INT OR INT ) ) ; _Z_X0Z_ZA9_9_A9XZ_XZZ0AAA := LF ; _Z_X0Z_ZA9_9_A9XZ_XZZ0AAA := 006 ; LF := 16#1 ; INT := ( LF + _1 ) >= 2#0 ; END_PROGRAM") (accepted (20 ∷ 0 ∷ 1 ∷ 0 ∷ 2 ∷ 0 ∷ 0 ∷ 0 ∷ 0 ∷ 1 ∷ 0 ∷ 0 ∷ 0 ∷ 0 ∷ 2 ∷ 0 ∷ 0 ∷ 0 ∷ 0 ∷ 2 ∷ 0 ∷ 0 ∷ 0 ∷ 0 ∷ 90 ∷ 0 ∷ 2 ∷ 0 ∷ 1 ∷ 3 ∷ 3 ∷ 4 ∷ 0 ∷ 1 ∷ 3 ∷ 1 ∷ 3 ∷ 3 ∷ 3 ∷ 2 ∷ 15 ∷ 19 ∷ 3 ∷ 1 ∷ 19 ∷ 4 ∷ 1 ∷ 1 ∷ 3 ∷ 2 ∷ 3 ∷ 3 ∷ 9 ∷ 4 ∷ 3 ∷ 1 ∷ 3 ∷ 1 ∷ 4 ∷ 1 ∷ 1 ∷ 3 ∷ 3 ∷ 4 ∷ 0 ∷ 1 ∷ 3 ∷ 1 ∷ 4 ∷ 1 ∷ 1 ∷ 3 ∷ 1 ∷ 3 ∷ 1 ∷ 3 ∷ 1 ∷ 20 ∷ 6 ∷ 16 ∷ 4 ∷ 1 ∷ 1 ∷ 3 ∷ 3 ∷ 4 ∷ 0 ∷ 1 ∷ 2 ∷ 6 ∷ 0 ∷ 0 ∷ 0 ∷ 4 ∷ 0 ∷ 1 ∷ 2 ∷ 1 ∷ 0 ∷ 0 ∷ 0 ∷ 4 ∷ 3 ∷ 1 ∷ 3 ∷ 3 ∷ 3 ∷ 2 ∷ 10 ∷ 2 ∷ 0 ∷ 0 ∷ 0 ∷ 0 ∷ 15 ∷ 4 ∷ 1 ∷ 29 ∷ 6 ∷ 0 ∷ 3 ∷ 0 ∷ 3 ∷ 0 ∷ 11 ∷ 0 ∷ 0 ∷ 0 ∷ []) 90 3 11) ∷
     refusing (90 ∷ 64 ∷ 35 ∷ 255 ∷ 97 ∷ 61 ∷ 46 ∷ 95 ∷ 60 ∷ 57 ∷ 119 ∷ 10 ∷ 42 ∷ 59 ∷ 97 ∷ 55 ∷ 0 ∷ 36 ∷ 92 ∷ 203 ∷ 9 ∷ 9 ∷ 92 ∷ 122 ∷ 3 ∷ 141 ∷ 32 ∷ 34 ∷ 9 ∷ 40 ∷ 95 ∷ 27 ∷ 90 ∷ 59 ∷ []) [] 4 2 1 ∷
@@ -172,6 +171,7 @@ cases1 =
     compiling (bytes "PROGRAM P VAR V0:DINT;V1:DINT;V2:DINT;V3:DINT;V4:DINT;V5:DINT;V6:DINT;V7:DINT; END_VAR FOR V1:=1 TO 2 DO FOR V2:=1 TO 2 DO FOR V3:=1 TO 0 DO FOR V4:=1 TO 0 DO FOR V5:=1 TO V0 DO FOR V6:=1 TO 1 DO FOR V7:=1 TO 0 DO V0:=V0+1; END_FOR; END_FOR; END_FOR; END_FOR; END_FOR; END_FOR; END_FOR; END_PROGRAM") (accepted (40 ∷ 0 ∷ 1 ∷ 0 ∷ 2 ∷ 0 ∷ 0 ∷ 0 ∷ 0 ∷ 2 ∷ 0 ∷ 0 ∷ 0 ∷ 0 ∷ 2 ∷ 0 ∷ 0 ∷ 0 ∷ 0 ∷ 2 ∷ 0 ∷ 0 ∷ 0 ∷ 0 ∷ 2 ∷ 0 ∷ 0 ∷ 0 ∷ 0 ∷ 2 ∷ 0 ∷ 0 ∷ 0 ∷ 0 ∷ 2 ∷ 0 ∷ 0 ∷ 0 ∷ 0 ∷ 2 ∷ 0 ∷ 0 ∷ 0 ∷ 0 ∷ 247 ∷ 0 ∷ 2 ∷ 0 ∷ 1 ∷ 2 ∷ 1 ∷ 0 ∷ 0 ∷ 0 ∷ 2 ∷ 2 ∷ 0 ∷ 0 ∷ 0 ∷ 26 ∷ 0 ∷ 4 ∷ 1 ∷ 27 ∷ 0 ∷ 1 ∷ 1 ∷ 0 ∷ 0 ∷ 0 ∷ 246 ∷ 0 ∷ 1 ∷ 1 ∷ 2 ∷ 1 ∷ 0 ∷ 0 ∷ 0 ∷ 2 ∷ 2 ∷ 0 ∷ 0 ∷ 0 ∷ 26 ∷ 1 ∷ 4 ∷ 2 ∷ 27 ∷ 1 ∷ 2 ∷ 1 ∷ 0 ∷ 0 ∷ 0 ∷ 237 ∷ 0 ∷ 1 ∷ 1 ∷ 2 ∷ 1 ∷ 0 ∷ 0 ∷ 0 ∷ 2 ∷ 0 ∷ 0 ∷ 0 ∷ 0 ∷ 26 ∷ 2 ∷ 4 ∷ 3 ∷ 27 ∷ 2 ∷ 3 ∷ 1 ∷ 0 ∷ 0 ∷ 0 ∷ 228 ∷ 0 ∷ 1 ∷ 1 ∷ 2 ∷ 1 ∷ 0 ∷ 0 ∷ 0 ∷ 2 ∷ 0 ∷ 0 ∷ 0 ∷ 0 ∷ 26 ∷ 3 ∷ 4 ∷ 4 ∷ 27 ∷ 3 ∷ 4 ∷ 1 ∷ 0 ∷ 0 ∷ 0 ∷ 219 ∷ 0 ∷ 1 ∷ 1 ∷ 2 ∷ 1 ∷ 0 ∷ 0 ∷ 0 ∷ 3 ∷ 0 ∷ 26 ∷ 4 ∷ 4 ∷ 5 ∷ 27 ∷ 4 ∷ 5 ∷ 1 ∷ 0 ∷ 0 ∷ 0 ∷ 210 ∷ 0 ∷ 1 ∷ 1 ∷ 2 ∷ 1 ∷ 0 ∷ 0 ∷ 0 ∷ 2 ∷ 1 ∷ 0 ∷ 0 ∷ 0 ∷ 26 ∷ 5 ∷ 4 ∷ 6 ∷ 27 ∷ 5 ∷ 6 ∷ 1 ∷ 0 ∷ 0 ∷ 0 ∷ 201 ∷ 0 ∷ 1 ∷ 1 ∷ 2 ∷ 1 ∷ 0 ∷ 0 ∷ 0 ∷ 2 ∷ 0 ∷ 0 ∷ 0 ∷ 0 ∷ 26 ∷ 6 ∷ 4 ∷ 7 ∷ 27 ∷ 6 ∷ 7 ∷ 1 ∷ 0 ∷ 0 ∷ 0 ∷ 192 ∷ 0 ∷ 1 ∷ 1 ∷ 3 ∷ 0 ∷ 2 ∷ 1 ∷ 0 ∷ 0 ∷ 0 ∷ 10 ∷ 4 ∷ 0 ∷ 28 ∷ 6 ∷ 7 ∷ 1 ∷ 0 ∷ 0 ∷ 0 ∷ 171 ∷ 0 ∷ 28 ∷ 5 ∷ 6 ∷ 1 ∷ 0 ∷ 0 ∷ 0 ∷ 146 ∷ 0 ∷ 28 ∷ 4 ∷ 5 ∷ 1 ∷ 0 ∷ 0 ∷ 0 ∷ 121 ∷ 0 ∷ 28 ∷ 3 ∷ 4 ∷ 1 ∷ 0 ∷ 0 ∷ 0 ∷ 99 ∷ 0 ∷ 28 ∷ 2 ∷ 3 ∷ 1 ∷ 0 ∷ 0 ∷ 0 ∷ 74 ∷ 0 ∷ 28 ∷ 1 ∷ 2 ∷ 1 ∷ 0 ∷ 0 ∷ 0 ∷ 49 ∷ 0 ∷ 28 ∷ 0 ∷ 1 ∷ 1 ∷ 0 ∷ 0 ∷ 0 ∷ 24 ∷ 0 ∷ 29 ∷ 6 ∷ 0 ∷ 3 ∷ 0 ∷ 2 ∷ 0 ∷ 255 ∷ 255 ∷ 255 ∷ 255 ∷ []) 247 2 4294967295) ∷
     image (35 ∷ 0 ∷ 1 ∷ 0 ∷ 2 ∷ 0 ∷ 0 ∷ 0 ∷ 0 ∷ 2 ∷ 0 ∷ 0 ∷ 0 ∷ 0 ∷ 2 ∷ 0 ∷ 0 ∷ 0 ∷ 0 ∷ 2 ∷ 0 ∷ 0 ∷ 0 ∷ 0 ∷ 2 ∷ 238 ∷ 255 ∷ 255 ∷ 255 ∷ 2 ∷ 0 ∷ 0 ∷ 0 ∷ 0 ∷ 2 ∷ 0 ∷ 0 ∷ 0 ∷ 0 ∷ 1 ∷ 0 ∷ 2 ∷ 0 ∷ 29 ∷ 6 ∷ 0 ∷ 3 ∷ 0 ∷ 0 ∷ 0 ∷ 0 ∷ 0 ∷ 0 ∷ 0 ∷ []) (negsuc 0 ∷ negsuc 0 ∷ pos 15 ∷ negsuc 2147483647 ∷ negsuc 8 ∷ pos 1 ∷ negsuc 0 ∷ []) 54 (report 0 0 1 0 (negsuc 0 ∷ negsuc 0 ∷ pos 15 ∷ negsuc 2147483647 ∷ negsuc 8 ∷ pos 1 ∷ negsuc 0 ∷ [])) ∷
     compiling (bytes " PROGRAM _ZZ99X9ZX90Z09_0 VAR KX9_90X00_Z000 : DINT ; END_VAR REPEAT UNTIL FALSE END_REPEAT ; KX9_90X00_Z000 := KX9_90X00_Z000 + 1 ; KX9_90X00_Z000 := 9 ; IF TRUE THEN FOR KX9_90X00_Z000 := 2 TO 2#110 DO ; END_FOR ; ELSE END_IF ; END_PROGRAM") (accepted (5 ∷ 0 ∷ 1 ∷ 0 ∷ 2 ∷ 0 ∷ 0 ∷ 0 ∷ 0 ∷ 75 ∷ 0 ∷ 2 ∷ 0 ∷ 1 ∷ 2 ∷ 0 ∷ 0 ∷ 0 ∷ 0 ∷ 22 ∷ 0 ∷ 0 ∷ 1 ∷ 3 ∷ 0 ∷ 2 ∷ 1 ∷ 0 ∷ 0 ∷ 0 ∷ 10 ∷ 4 ∷ 0 ∷ 1 ∷ 2 ∷ 9 ∷ 0 ∷ 0 ∷ 0 ∷ 4 ∷ 0 ∷ 1 ∷ 2 ∷ 1 ∷ 0 ∷ 0 ∷ 0 ∷ 22 ∷ 74 ∷ 0 ∷ 1 ∷ 2 ∷ 2 ∷ 0 ∷ 0 ∷ 0 ∷ 2 ∷ 6 ∷ 0 ∷ 0 ∷ 0 ∷ 26 ∷ 0 ∷ 4 ∷ 0 ∷ 27 ∷ 0 ∷ 0 ∷ 1 ∷ 0 ∷ 0 ∷ 0 ∷ 71 ∷ 0 ∷ 1 ∷ 28 ∷ 0 ∷ 0 ∷ 1 ∷ 0 ∷ 0 ∷ 0 ∷ 61 ∷ 0 ∷ 21 ∷ 74 ∷ 0 ∷ 29 ∷ 6 ∷ 0 ∷ 3 ∷ 0 ∷ 2 ∷ 0 ∷ 255 ∷ 255 ∷ 255 ∷ 255 ∷ []) 75 2 4294967295) ∷
+    compiling (bytes "PROGRAM  \u{c}I\tvaR\u{c} RETuRN:DINT\r;k0909z_xx_axa9a_z0zz9_azx:DINT\r(* (*(**)*) x *);UNKNOWN_NAME:DiNt;\tQAX0X09ZXX0_0Z_AXX_A990_AZA0_99X\n\t: \r DINT;i:dint;eND:\r(* (*)*) *)bool:= (* \" *)FalsE\r;k_z99xz9zx_xxa_90xx \r:\r (* (*)*) *)dInT\t//\r:=\n- 8#11;end_var\t(* 1..5 :=  *) END:=END;\r\u{c}//x*)\u{c}if\nFALSE\t\u{c}///**)\rthen\n //*)/*\rEnd\u{c}:=end\u{c}XOR\r(* ** ** *)(* /* *)B<=(K_Z99xZ9ZX_XXa_90xX);\rWHILE\rTRUE\tDO\t\t\u{c}repeat\u{c}\nuntil\n\u{c} REturn>=2#1000\n\n///*\rend_repeat\t\t\r;END_WHILE;k0909z_xx_axa9a_z0zz9_azx\u{c}//\n\n:=K0909Z_xX_AXA9A_Z0Zz9_AZx-1\t\r;end:=END<>true<> END\t(* 1..5 :=  /* *)\t;\u{c}\nELSIF\nTRUE\u{c}THEN\u{c}i:=\u{c} i;ELSE\rrEtuRn:=return+2\r(*  //  *);\r\tEXIT\n(* (*(**)*) *)\r;END_IF\n\r; IF\u{c}\r(* *)enD\u{c}then\n///*\nCASE\t(* *)I \u{c}of-15\n..\u{c}\r -8#12 :\r-\n\r1159251069:\n\r8#10..\n+ (* \" 1..5 :=  *)2147483648,16#1:\r-16#40f2Fa64\n\r\t:\telse\renD_CASE\r\r\r;\rELsE\t (* /* *)ENd_IF;\t\rEND_PROGRAM //END_PROGRAM;x\r") (refused 7 340) ∷
     compiling (bytes " PROGRAM END VAR INT : BOOL := TRUE ; Q_0_ZZ9X9X_A_09_AX_90X9A90XX_X_0 : DINT := + 8#4305441352 ; _1 : DINT := - 8#7 ; END : DINT ; A : BOOL ; I : DINT := - 2#10011 ; K0_Z_9AXX_Z_9AA_Z_99XZAZAX_Z9 : BOOL ; END_VAR Q_0_ZZ9X9X_A_09_AX_90X9A90XX_X_0 := 0 ; Q_0_ZZ9X9X_A_09_AX_90X9A90XX_X_0 := 8#6 - ( END + I * 8#1 ) ; END := 16#1 ; I := I + 1 ; Q_0_ZZ9X9X_A_09_AX_90X9A90XX_X_0 := ( ( 1 - ( I ) MOD ( - ( 0011 MOD Q_0_ZZ9X9X_A_09_AX_90X9A90XX_X_0 ) * ( - ( ( 2#101 ) ) ) ) - ( 8#13 / END ) ) ) MOD ( END MOD END * + I ) ; END := END * 2 ; A := A ; END_PROGRAM") (accepted (35 ∷ 0 ∷ 1 ∷ 0 ∷ 1 ∷ 1 ∷ 0 ∷ 0 ∷ 0 ∷ 2 ∷ 234 ∷ 66 ∷ 22 ∷ 35 ∷ 2 ∷ 249 ∷ 255 ∷ 255 ∷ 255 ∷ 2 ∷ 0 ∷ 0 ∷ 0 ∷ 0 ∷ 1 ∷ 0 ∷ 0 ∷ 0 ∷ 0 ∷ 2 ∷ 237 ∷ 255 ∷ 255 ∷ 255 ∷ 1 ∷ 0 ∷ 0 ∷ 0 ∷ 0 ∷ 110 ∷ 0 ∷ 2 ∷ 0 ∷ 1 ∷ 2 ∷ 0 ∷ 0 ∷ 0 ∷ 0 ∷ 4 ∷ 1 ∷ 1 ∷ 2 ∷ 6 ∷ 0 ∷ 0 ∷ 0 ∷ 3 ∷ 3 ∷ 3 ∷ 5 ∷ 2 ∷ 1 ∷ 0 ∷ 0 ∷ 0 ∷ 7 ∷ 10 ∷ 11 ∷ 4 ∷ 1 ∷ 1 ∷ 2 ∷ 1 ∷ 0 ∷ 0 ∷ 0 ∷ 4 ∷ 3 ∷ 1 ∷ 3 ∷ 5 ∷ 2 ∷ 1 ∷ 0 ∷ 0 ∷ 0 ∷ 10 ∷ 4 ∷ 5 ∷ 1 ∷ 2 ∷ 1 ∷ 0 ∷ 0 ∷ 0 ∷ 3 ∷ 5 ∷ 2 ∷ 11 ∷ 0 ∷ 0 ∷ 0 ∷ 3 ∷ 1 ∷ 9 ∷ 5 ∷ 2 ∷ 5 ∷ 0 ∷ 0 ∷ 0 ∷ 5 ∷ 7 ∷ 9 ∷ 11 ∷ 2 ∷ 11 ∷ 0 ∷ 0 ∷ 0 ∷ 3 ∷ 3 ∷ 8 ∷ 11 ∷ 3 ∷ 3 ∷ 3 ∷ 3 ∷ 9 ∷ 3 ∷ 5 ∷ 7 ∷ 9 ∷ 4 ∷ 1 ∷ 1 ∷ 3 ∷ 3 ∷ 2 ∷ 2 ∷ 0 ∷ 0 ∷ 0 ∷ 7 ∷ 4 ∷ 3 ∷ 1 ∷ 3 ∷ 4 ∷ 4 ∷ 4 ∷ 29 ∷ 6 ∷ 0 ∷ 3 ∷ 0 ∷ 4 ∷ 0 ∷ 7 ∷ 0 ∷ 0 ∷ 0 ∷ []) 110 4 7) ∷
     compilingIn (bytes "\t(* /*  //  *)\tPROGRAM\t\u{c}qa_xxz90x9_z9_aazazzza99z VAR\r\n\u{c}lf:\r(* (*)*) *)\ndint:=\r \n-1;end // (* //\r :bool;A: bool;END_VAR\r(*  //  ** *)\u{c}case\n\r(*  //  *)LF\n\tOF  00133_7615524..16#4FBA64A9:\t+\t3:\n-\r8#001\r:\r\n1..\r \n8#6:ELSE\n(* \"  //  *)ENd_CAsE\n;\t(*  //  *) END_PROGRAM") 113 (refused 14 262) ∷
     compiling (bytes " PROGRAM QZAXAA_0A00AXXX_Z_ZZ09AAX VAR A : DINT ; B : DINT ; _Z9_XXX : DINT ; INT : DINT ; END_VAR END_PROGRAM\t\u{c}\n") (accepted (20 ∷ 0 ∷ 1 ∷ 0 ∷ 2 ∷ 0 ∷ 0 ∷ 0 ∷ 0 ∷ 2 ∷ 0 ∷ 0 ∷ 0 ∷ 0 ∷ 2 ∷ 0 ∷ 0 ∷ 0 ∷ 0 ∷ 2 ∷ 0 ∷ 0 ∷ 0 ∷ 0 ∷ 1 ∷ 0 ∷ 2 ∷ 0 ∷ 29 ∷ 6 ∷ 0 ∷ 3 ∷ 0 ∷ 0 ∷ 0 ∷ 0 ∷ 0 ∷ 0 ∷ 0 ∷ []) 1 0 0) ∷
@@ -308,6 +308,7 @@ cases2 =
     meaningAt 0 (bytes "program\ra\t\nVAR\u{c}QAA_ZA_A9:dint:=\u{c}-16#7FFFFFFF;\u{c}(* (*)*) \" *)\teND_VaR\n\r///* (* \u{c}end_program") (negsuc 13 ∷ []) 0 0 (negsuc 13 ∷ []) ∷
     meaningAt 2 (bytes "PROGRAM\t\rENd\t\tVAR return:dInT:=13;k0a\t:\u{c}BoOl\t \n; ka9_xx_9_0x0xxzxzxx_z: \rdINT;END_VAR\rRETURN:=(2#1001\u{c}  MOD\r \tka9_xx_9_0x0xxzxzxx_z \u{c}(* \" ** *))+5;\n\u{c}reTuRN:=  \tKa9_xX_9_0X0xXZXzxx_Z\t\n;for ka9_xx_9_0x0xxzxzxx_z:=8#5\u{c}\u{c}TO\r5\tby- 3\rDO\t\rend_for;\n\tKA9_xX_9_0x0XxZxZxx_Z:=ka9_xx_9_0x0xxzxzxx_z\u{c}\n-\n1;;eND_pROGRaM") (negsuc 2147483647 ∷ pos 1 ∷ pos 19 ∷ []) 20 2 (pos 19 ∷ pos 1 ∷ pos 19 ∷ []) ∷
     compilingIn (bytes "PROGRAM P VAR A:DINT:=+2147483649; END_VAR END_PROGRAM") 0 (refused 4 23) ∷
+    compiling (bytes "PROGRAM\u{c}Q_9_90_XX_009\u{c}VAR\u{c}_1:DINT:= -7;INT:BOOL;I:DINT:=0;A:DINT;B:DINT;LF:DINT;_Z9_X0_Z0:DINT;Q9_A9Z:DINT;RETURN:DINT;END:DINT;QXXA09_XAZXXA:DINT:=16#7fffffff;QX:BOOL;KA_9Z00XZZA_A_9X_X0A_XX9ZX9Z99:DINT:=\n-2#10000000_000000000000000000000000;_ZXX_XZ9:DINT;K0A_0Z_9AZAA9AZA0_9_A0X:DINT:=8#1;_Z_9A90X9X_090X0ZZ_A0:DINT:=0;KZ_X0Z9X90X0_0A_Z_A_0_AZZ:DINT;Q9_ZAA00AX0_Z90_0A0AX_AAX9:DINT;QZ9:BOOL:=TRUE;K900A_9XZZX90099A_0Z_9:DINT:=0;QZXA_00ZAX:DINT;_Z9Z_0_0AAAZA_XXA0_9ZZ0Z:DINT:=3;QX_AA_ZXZXXZ_X:DINT:=\t-17;_ZXX:BOOL;_ZZZ9Z000_0X9_AZZXA0_9A9AX9A_A:DINT:=2#1101;K09XXZZ_AZAAX90_XA:DINT:=2;_ZZ999XZZX00ZAZ:DINT:=501189877;KZZ0ZAA_A00_0_A:BOOL:=TRUE;Q_ZXXX_0Z009:DINT;_ZZ0X9:DINT;K9_09XZ_99XA_Z9:DINT;QX0AZ_0A09900X_A_0Z90:DINT:= +6;_ZX_X_A:DINT;_ZAXAXZXZ9X00AA9:DINT:=\u{c}-19;Q9Z9ZZ00_9A9X_X0A_ZZX_Z:DINT;QXA_09X0_AAX090:DINT;K9_X9Z:DINT:=\u{c}-8#20;KXX90Z00XXAA99Z_X_Z9X:DINT:=1;Q0_XAZ0AAX0X:DINT;KZ_A_0_0A99X9ZA_AZ0_XZ000AX0:DINT;_ZZZZ_AX9XZ_XAA0AX_X0A_9_9_X0AXA:DINT;QZ0A9Z_99ZZ9A0_A0A90_A:DINT;KZ_AX9:DINT;_ZXA_XZZ_AZ9_AX9A0:DINT;_ZZ:DINT;_ZX9X0A9XX_A9A_Z:DINT:=\n-16#b;Q90A00XA9_A9XA9X9Z:DINT;QA9_9XX_ZAZX0A_9_9Z:DINT;KXA00A9_Z9X_Z99_A0A_0X0:DINT;KXZX90ZZ009AZ_ZXZ0A_0XZXXA_0AAAA:BOOL;K9_0ZZ0ZA:BOOL;Q090:DINT;_ZXAX9AZ0AA_AXX099Z0Z_9Z0000_9AA:DINT;_Z:BOOL;QXX_XZ00ZAA_9ZX_9_9XA:BOOL:=FALSE;K_AZ0:DINT;Q000_900X:DINT;KXA00Z_XXZXZXZ_Z_X9_XX0_AA:BOOL;_ZX900XXZ09ZXAX:DINT:=\r-2#10000;_ZA0_Z:DINT;Q9ZXX0_ZA_XZA_90_A9Z_X_9XXAZ_X:DINT;Q9A99X_0ZX99A0AAX_XAXXX:DINT;K000_AX9XZZ_Z:DINT:=6;Q_0_ZZAA_A9ZA009X_Z9AA:DINT;END_VAR K000_AX9XZZ_Z:=K000_AX9XZZ_Z+1;FOR QA9_9XX_ZAZX0A_9_9Z:=LF/2#11/006\u{c}TO\n16#5\nBY\r3\nDO\rKXA00Z_XXZXZXZ_Z_X9_XX0_AA:=KXA00Z_XXZXZXZ_Z_X9_XX0_AA;END_FOR;Q90A00XA9_A9XA9X9Z:=\t+(Q9_ZAA00AX0_Z90_0A0AX_AAX9+Q0_XAZ0AAX0X)*KA_9Z00XZZA_A_9X_X0A_XX9ZX9Z99;CASE\t0 OF\u{c}2#0:_ZXAX9AZ0AA_AXX099Z0Z_9Z0000_9AA:=_ZX9X0A9XX_A9A_Z;B:=B+1;006475_52086,16#1:FOR QA9_9XX_ZAZX0A_9_9Z:=6\nTO-0\tDO\u{c}IF\r_ZXX\nTHEN\tELSE\rFOR\t_ZAXAXZXZ9X00AA9:=\t-(2#111*(_Z_9A90X9X_090X0ZZ_A0*_ZA0_Z))-11\rTO 0\u{c}BY\t1 DO\rIF TRUE\tTHEN\tK9_0ZZ0ZA:=Q000_900X<>QX_AA_ZXZXXZ_X\u{c}OR\t_ZZ999XZZX00ZAZ<>*0_XAZ0AAX0X;KXA00A9_Z9X_Z99_A0A_0X0:=KXA00A9_Z9X_Z99_A0A_0X0*2;REPEAT\rIF(NOT\rTRUE)THEN\u{c}CASE\tQ_ZXXX_0Z009\rOF\u{c}16#8:;KXZX90ZZ009AZ_ZXZ0A_0XZXXA_0AAAA:=_Z\nXOR\tFALSE;-2#001010100111011000000000000100111..\u{c}-14247_52678:_ZZ999XZZX00ZAZ:=_ZXX_XZ9*( -(2\nMOD\t_ZZ999XZZX00ZAZ));FOR\tQ9_A9Z:=\n-1\u{c}TO(QX0AZ_0A09900X_A_0Z90)BY\r3 DO\nEXIT;END_FOR;K900A_9XZZX90099A_0Z_9:=K900A_9XZZX90099A_0Z_9-1;_ZXX:=_Z;QX:=K9_0ZZ0ZA;2#1001,-1..0:\t-16#001,2#10011..\u{c}+2147483647,-8#7..\u{c}-6,19:K9_0ZZ0ZA:=FALSE=_ZZ/_ZXX_XZ9<_ZXAX9AZ0AA_AXX099Z0Z_9Z0000_9AA;QXX_XZ00ZAA_9ZX_9_9XA:=NOT\u{c}QXX_XZ00ZAA_9ZX_9_9XA;_ZX9X0A9XX_A9A_Z:=9;EXIT;Q9A99X_0ZX99A0AAX_XAXXX:=QX0AZ_0A09900X_A_0Z90;END_CASE;KXZX90ZZ09AZ_ZXZ0A_0XZXXA_0AAAA:=QXX_XZ00ZAA_9ZX_9_9XA;EXIT;Q_ZXXX_0Z009:=Q_ZXXX_0Z009+1;CASE\r_Z_9A90X9X_090X0ZZ_A0\u{c}OF+8#24:20..21:Q9_ZAA00AX0_Z90_0A0AX_AAX9:=Q9_ZAA00AX0_Z90_0A0AX_AAX9+2;ELSE\rREPEAT KZ_AX9:=KZ_AX9+1;UNTIL\tNOT((QA9_9XX_ZAZX0A_9_9Z=LF)<>TRUE)END_REPEAT;Q9_ZAA00AX0_Z90_0A0AX_AAX9:=\t-((_Z9Z_0_0AAAZA_XXA0_9ZZ0Z-QZXA_00ZAX)MOD 8*QZXA_00ZAX\nMOD _Z_9A90X9X_090X0ZZ_A0 MOD( -(8#0/((K900A_9XZZX90099A_0Z_9+0\nMOD\rK9_X9Z))))+A/_ZZ999XZZX00ZAZ MOD 2-(8#1_2/Q_0_ZZAA_A9ZA009X_Z9AA));;FOR>Q9_A9Z:=4\tTO\t8#0 BY-2\rDO\nKZ_X0Z9X90X0_0A_Z_A_0_AZZ:=8/(_Z9Z_0_0AAAZA_XXA0_9ZZ0Z/_ZX9X0A9XX_A9A_Z);END_FOR;_Z:=NOT\tQX<>(NOT\tK9_0ZZ0ZA);K0A_0Z_9AZAA9AZA0_9_A0X:=K0A_0Z_9AZAA9AZA0_9_A0X-1;QXX_XZ00ZAA_9ZX_9_9XA:=KXX90Z00XXAA99Z_X_Z9X<>QA9_9XX_ZAZX0A_9_9Z\tAND\nTRUE&INT;FOR\tQ090:=(8#12)TO\t2#11_0 BY 4\rDO\rQZXA_00ZAX:=8#1;FOR\tK0A_0Z_9AZAA9AZA0_9_A0X:= -16#3\nTO\t2#110\nBY-2\rDO\tEND_FOR;END:=6;END_FOR;_ZXX:=K_AZ0-_Z9_X0_Z0=_ZX9X0A9XX_A9A_Z;EXIT;CASE\u{c}8\tOF-16#4:0..\u{c}+2147483647:\r-8#0017777777777.. -2147483647,+12..2#00_1100,0..8#17777777777:13..\u{c}+13:ELSE\tEND_CASE;END_CASE;END_IF;UNT:IL+(1-(\t-((Q090-7))+10))=\u{c}-(005)-(LF*\n+(QXA_09X0_AAX090*2#1001))END_REPEAT;END_IF;END_FOR;END_IF;END_FOR;END_CASE;END_PROGRAM\n") (refused 4 2043) ∷
     image (35 ∷ 0 ∷ 1 ∷ 0 ∷ 2 ∷ 12 ∷ 0 ∷ 0 ∷ 0 ∷ 2 ∷ 0 ∷ 0 ∷ 0 ∷ 0 ∷ 1 ∷ 0 ∷ 0 ∷ 0 ∷ 0 ∷ 2 ∷ 0 ∷ 0 ∷ 0 ∷ 0 ∷ 1 ∷ 0 ∷ 0 ∷ 0 ∷ 0 ∷ 2 ∷ 0 ∷ 0 ∷ 0 ∷ 0 ∷ 1 ∷ 0 ∷ 0 ∷ 0 ∷ 0 ∷ 34 ∷ 0 ∷ 2 ∷ 0 ∷ 1 ∷ 2 ∷ 0 ∷ 0 ∷ 1 ∷ 0 ∷ 3 ∷ 0 ∷ 15 ∷ 4 ∷ 2 ∷ 1 ∷ 3 ∷ 0 ∷ 2 ∷ 8 ∷ 0 ∷ 0 ∷ 0 ∷ 11 ∷ 4 ∷ 3 ∷ 1 ∷ 3 ∷ 0 ∷ 2 ∷ 1 ∷ 0 ∷ 0 ∷ 0 ∷ 11 ∷ 4 ∷ 0 ∷ 29 ∷ 6 ∷ 0 ∷ 3 ∷ 0 ∷ 2 ∷ 0 ∷ 3 ∷ 0 ∷ 0 ∷ 0 ∷ []) (pos 1 ∷ negsuc 1135207647 ∷ pos 0 ∷ negsuc 1240583810 ∷ pos 0 ∷ pos 1 ∷ pos 0 ∷ []) 0 (report 20 0 0 0 (pos 1 ∷ negsuc 1135207647 ∷ pos 0 ∷ negsuc 1240583810 ∷ pos 0 ∷ pos 1 ∷ pos 0 ∷ [])) ∷
     compilingIn (bytes " PROGRAM _ZXZXAZ VAR _Z0X9A9X_XZZZ : DINT ; _ZAA_A0X9XZ_0X0X9_0AX_ZZA9ZX : BOOL := TRUE ; QZA9A9A0X : DINT := - 2#00_1 ; END_VAR END_PROGRAM") 8529 (accepted (15 ∷ 0 ∷ 1 ∷ 0 ∷ 2 ∷ 0 ∷ 0 ∷ 0 ∷ 0 ∷ 1 ∷ 1 ∷ 0 ∷ 0 ∷ 0 ∷ 2 ∷ 255 ∷ 255 ∷ 255 ∷ 255 ∷ 1 ∷ 0 ∷ 2 ∷ 0 ∷ 29 ∷ 6 ∷ 0 ∷ 3 ∷ 0 ∷ 0 ∷ 0 ∷ 0 ∷ 0 ∷ 0 ∷ 0 ∷ []) 1 0 0) ∷
     compiling (132 ∷ 249 ∷ 242 ∷ 41 ∷ 11 ∷ 11 ∷ []) (refused 2 0) ∷
@@ -316,11 +317,11 @@ cases2 =
     compiling (bytes "PROGRAM P VAR V0:DINT;V1:DINT;V2:DINT;V3:DINT;V4:DINT;V5:DINT;V6:DINT;V7:DINT; END_VAR FOR V1:=1 TO 1 DO FOR V2:=1 TO 2 DO REPEAT FOR V3:=1 TO 0 DO REPEAT FOR V4:=1 TO 2 DO FOR V5:=1 TO 2 DO FOR V6:=1 TO 1 DO REPEAT FOR V7:=1 TO V0 DO V0:=V0+1; END_FOR; UNTIL TRUE END_REPEAT; END_FOR; END_FOR; END_FOR; UNTIL TRUE END_REPEAT; END_FOR; UNTIL TRUE END_REPEAT; END_FOR; END_FOR; END_PROGRAM") (accepted (40 ∷ 0 ∷ 1 ∷ 0 ∷ 2 ∷ 0 ∷ 0 ∷ 0 ∷ 0 ∷ 2 ∷ 0 ∷ 0 ∷ 0 ∷ 0 ∷ 2 ∷ 0 ∷ 0 ∷ 0 ∷ 0 ∷ 2 ∷ 0 ∷ 0 ∷ 0 ∷ 0 ∷ 2 ∷ 0 ∷ 0 ∷ 0 ∷ 0 ∷ 2 ∷ 0 ∷ 0 ∷ 0 ∷ 0 ∷ 2 ∷ 0 ∷ 0 ∷ 0 ∷ 0 ∷ 2 ∷ 0 ∷ 0 ∷ 0 ∷ 0 ∷ 18 ∷ 1 ∷ 2 ∷ 0 ∷ 1 ∷ 2 ∷ 1 ∷ 0 ∷ 0 ∷ 0 ∷ 2 ∷ 1 ∷ 0 ∷ 0 ∷ 0 ∷ 26 ∷ 0 ∷ 4 ∷ 1 ∷ 27 ∷ 0 ∷ 1 ∷ 1 ∷ 0 ∷ 0 ∷ 0 ∷ 17 ∷ 1 ∷ 1 ∷ 1 ∷ 2 ∷ 1 ∷ 0 ∷ 0 ∷ 0 ∷ 2 ∷ 2 ∷ 0 ∷ 0 ∷ 0 ∷ 26 ∷ 1 ∷ 4 ∷ 2 ∷ 27 ∷ 1 ∷ 2 ∷ 1 ∷ 0 ∷ 0 ∷ 0 ∷ 8 ∷ 1 ∷ 1 ∷ 1 ∷ 1 ∷ 2 ∷ 1 ∷ 0 ∷ 0 ∷ 0 ∷ 2 ∷ 0 ∷ 0 ∷ 0 ∷ 0 ∷ 26 ∷ 2 ∷ 4 ∷ 3 ∷ 27 ∷ 2 ∷ 3 ∷ 1 ∷ 0 ∷ 0 ∷ 0 ∷ 247 ∷ 0 ∷ 1 ∷ 1 ∷ 1 ∷ 2 ∷ 1 ∷ 0 ∷ 0 ∷ 0 ∷ 2 ∷ 2 ∷ 0 ∷ 0 ∷ 0 ∷ 26 ∷ 3 ∷ 4 ∷ 4 ∷ 27 ∷ 3 ∷ 4 ∷ 1 ∷ 0 ∷ 0 ∷ 0 ∷ 230 ∷ 0 ∷ 1 ∷ 1 ∷ 2 ∷ 1 ∷ 0 ∷ 0 ∷ 0 ∷ 2 ∷ 2 ∷ 0 ∷ 0 ∷ 0 ∷ 26 ∷ 4 ∷ 4 ∷ 5 ∷ 27 ∷ 4 ∷ 5 ∷ 1 ∷ 0 ∷ 0 ∷ 0 ∷ 221 ∷ 0 ∷ 1 ∷ 1 ∷ 2 ∷ 1 ∷ 0 ∷ 0 ∷ 0 ∷ 2 ∷ 1 ∷ 0 ∷ 0 ∷ 0 ∷ 26 ∷ 5 ∷ 4 ∷ 6 ∷ 27 ∷ 5 ∷ 6 ∷ 1 ∷ 0 ∷ 0 ∷ 0 ∷ 212 ∷ 0 ∷ 1 ∷ 1 ∷ 1 ∷ 2 ∷ 1 ∷ 0 ∷ 0 ∷ 0 ∷ 3 ∷ 0 ∷ 26 ∷ 6 ∷ 4 ∷ 7 ∷ 27 ∷ 6 ∷ 7 ∷ 1 ∷ 0 ∷ 0 ∷ 0 ∷ 195 ∷ 0 ∷ 1 ∷ 1 ∷ 3 ∷ 0 ∷ 2 ∷ 1 ∷ 0 ∷ 0 ∷ 0 ∷ 10 ∷ 4 ∷ 0 ∷ 28 ∷ 6 ∷ 7 ∷ 1 ∷ 0 ∷ 0 ∷ 0 ∷ 174 ∷ 0 ∷ 2 ∷ 1 ∷ 0 ∷ 0 ∷ 0 ∷ 22 ∷ 152 ∷ 0 ∷ 28 ∷ 5 ∷ 6 ∷ 1 ∷ 0 ∷ 0 ∷ 0 ∷ 151 ∷ 0 ∷ 28 ∷ 4 ∷ 5 ∷ 1 ∷ 0 ∷ 0 ∷ 0 ∷ 126 ∷ 0 ∷ 28 ∷ 3 ∷ 4 ∷ 1 ∷ 0 ∷ 0 ∷ 0 ∷ 101 ∷ 0 ∷ 2 ∷ 1 ∷ 0 ∷ 0 ∷ 0 ∷ 22 ∷ 76 ∷ 0 ∷ 28 ∷ 2 ∷ 3 ∷ 1 ∷ 0 ∷ 0 ∷ 0 ∷ 75 ∷ 0 ∷ 2 ∷ 1 ∷ 0 ∷ 0 ∷ 0 ∷ 22 ∷ 50 ∷ 0 ∷ 28 ∷ 1 ∷ 2 ∷ 1 ∷ 0 ∷ 0 ∷ 0 ∷ 49 ∷ 0 ∷ 28 ∷ 0 ∷ 1 ∷ 1 ∷ 0 ∷ 0 ∷ 0 ∷ 24 ∷ 0 ∷ 29 ∷ 6 ∷ 0 ∷ 3 ∷ 0 ∷ 2 ∷ 0 ∷ 255 ∷ 255 ∷ 255 ∷ 255 ∷ []) 274 2 4294967295) ∷
     compiling (bytes " PROGRAM _Z0_XZAZ0_XA0_ZXX$ VAR Q_9_9XZ_9AZXAA0_ZA : DINT := + 1 ; B : BOOL ; END_VAR END_PROGRAM") (refused 2 26) ∷
     image (0 ∷ 0 ∷ 1 ∷ 0 ∷ 59 ∷ 0 ∷ 2 ∷ 0 ∷ 1 ∷ 2 ∷ 1 ∷ 0 ∷ 0 ∷ 0 ∷ 22 ∷ 58 ∷ 0 ∷ 1 ∷ 2 ∷ 9 ∷ 0 ∷ 0 ∷ 0 ∷ 2 ∷ 11 ∷ 0 ∷ 0 ∷ 0 ∷ 11 ∷ 2 ∷ 3 ∷ 0 ∷ 0 ∷ 0 ∷ 2 ∷ 7 ∷ 0 ∷ 0 ∷ 0 ∷ 7 ∷ 14 ∷ 22 ∷ 55 ∷ 0 ∷ 1 ∷ 2 ∷ 1 ∷ 0 ∷ 0 ∷ 0 ∷ 22 ∷ 52 ∷ 0 ∷ 1 ∷ 21 ∷ 52 ∷ 0 ∷ 21 ∷ 36 ∷ 0 ∷ 21 ∷ 55 ∷ 0 ∷ 21 ∷ 58 ∷ 0 ∷ 29 ∷ 6 ∷ 0 ∷ 3 ∷ 0 ∷ 3 ∷ 0 ∷ 255 ∷ 255 ∷ 255 ∷ 255 ∷ []) [] 7 (report 0 4 20 58 []) ∷
-    meaningAt 0 (bytes " PROGRAM I VAR _Z0Z0_X_0A0AAXZ9A : DINT ; KZ_XZ : DINT := 0 ; A : DINT := 8#0 ; Q_XZZZ_ZA09AXZ9A0ZXA00 : DINT ; INT : DINT ; END_VAR END_PROGRAM") (pos 2 ∷ pos 1742381767 ∷ pos 13 ∷ negsuc 9 ∷ negsuc 0 ∷ []) 0 0 (pos 2 ∷ pos 1742381767 ∷ pos 13 ∷ negsuc 9 ∷ negsuc 0 ∷ []) ∷
     []
 
 cases3 : List Case
 cases3 =
+    meaningAt 0 (bytes " PROGRAM I VAR _Z0Z0_X_0A0AAXZ9A : DINT ; KZ_XZ : DINT := 0 ; A : DINT := 8#0 ; Q_XZZZ_ZA09AXZ9A0ZXA00 : DINT ; INT : DINT ; END_VAR END_PROGRAM") (pos 2 ∷ pos 1742381767 ∷ pos 13 ∷ negsuc 9 ∷ negsuc 0 ∷ []) 0 0 (pos 2 ∷ pos 1742381767 ∷ pos 13 ∷ negsuc 9 ∷ negsuc 0 ∷ []) ∷
     image (15 ∷ 0 ∷ 1 ∷ 0 ∷ 2 ∷ 237 ∷ 255 ∷ 255 ∷ 255 ∷ 1 ∷ 1 ∷ 0 ∷ 0 ∷ 0 ∷ 1 ∷ 1 ∷ 0 ∷ 0 ∷ 0 ∷ 113 ∷ 0 ∷ 2 ∷ 0 ∷ 5 ∷ 2 ∷ 255 ∷ 255 ∷ 255 ∷ 255 ∷ 2 ∷ 1 ∷ 0 ∷ 0 ∷ 0 ∷ 7 ∷ 6 ∷ 1 ∷ 28 ∷ 0 ∷ 1 ∷ 19 ∷ 0 ∷ 0 ∷ 0 ∷ 0 ∷ 0 ∷ 27 ∷ 1 ∷ 1 ∷ 18 ∷ 0 ∷ 0 ∷ 0 ∷ 88 ∷ 0 ∷ 2 ∷ 1 ∷ 0 ∷ 0 ∷ 128 ∷ 1 ∷ 118 ∷ 1 ∷ 18 ∷ 28 ∷ 6 ∷ 0 ∷ 255 ∷ 255 ∷ 255 ∷ 255 ∷ 16 ∷ 0 ∷ 8 ∷ 22 ∷ 20 ∷ 0 ∷ 1 ∷ 20 ∷ 18 ∷ 3 ∷ 0 ∷ 2 ∷ 142 ∷ 43 ∷ 232 ∷ 162 ∷ 24 ∷ 49 ∷ 0 ∷ 15 ∷ 3 ∷ 2 ∷ 7 ∷ 5 ∷ 1 ∷ 19 ∷ 2 ∷ 237 ∷ 255 ∷ 255 ∷ 255 ∷ 10 ∷ 29 ∷ 18 ∷ 2 ∷ 249 ∷ 255 ∷ 255 ∷ 255 ∷ 3 ∷ 1 ∷ 20 ∷ 10 ∷ 15 ∷ 3 ∷ 207 ∷ 12 ∷ 20 ∷ 17 ∷ 1 ∷ 1 ∷ 3 ∷ 214 ∷ 22 ∷ 76 ∷ 0 ∷ 46 ∷ 15 ∷ 9 ∷ 10 ∷ 8 ∷ 1 ∷ 19 ∷ 18 ∷ 29 ∷ 6 ∷ 0 ∷ 3 ∷ 0 ∷ 11 ∷ 0 ∷ 132 ∷ 36 ∷ 97 ∷ 132 ∷ []) (pos 1281690118 ∷ pos 1 ∷ pos 0 ∷ []) 28 (report 25 0 0 0 (pos 1281690118 ∷ pos 1 ∷ pos 0 ∷ [])) ∷
     compiling (bytes "PROGRAM LF\rVAR\rLF:DINT;END:DINT;B:DINT:=16#7f8fb558;KAX9_ZA0AZZ_ZZZ0:BOOL:=FALSE;INT:DINT;Q_A90_9_Z0XX_0A9_ZZ_X00AAAXZ:DINT;Q_9ZZ0_90_A09X_AA9_0ZXZ9XXZXZX:BOOL;END_VAR\rCASE\nQ_A90_9_Z0XX_0A9_ZZ_X00AAAXZ\nOF 1:END_CASE;B:=(Q_A90_9_Z0XX_0A9_ZZ_X00AAAXZ)*LF;END:=END+1;IF\tQ_9ZZ0_90_A09X_AA9_0ZXZ9XXZXZX\nTHEN\rKAX9_ZA0AZZ_ZZZ0:=((Q_A90_9_Z0XX_0A9_ZZ_X00AAAXZ))<LF\tMOD\rINT;IF\u{c}Q_9ZZ0_90_A09X_AA9_0ZXZ9XXZXZX THEN\tEND:=END+2;ELSIF\u{c}NOT KAX9_ZA0AZZ_ZZZ0\nTHEN\tELSE\nIF\nNOT(NOT\nFALSE\rAND(LF<B))THEN\rREPEAT\u{c}UNTIL\tKAX9_ZA0AZZ_ZZZ0\u{c}END_REPEAT;FOR\u{c}LF:=1\rTO\t0\nDO\nEND_FOR;Q_9ZZ0_90_A09X_AA9_0ZXZ9XXZXZX:=FALSE\tOR KAX9_ZA0AZZ_ZZZ0;END_IF;END_IF;ELSE\rEND_IF;END_PROGRAM\t") (accepted (35 ∷ 0 ∷ 1 ∷ 0 ∷ 2 ∷ 0 ∷ 0 ∷ 0 ∷ 0 ∷ 2 ∷ 0 ∷ 0 ∷ 0 ∷ 0 ∷ 2 ∷ 88 ∷ 181 ∷ 143 ∷ 127 ∷ 1 ∷ 0 ∷ 0 ∷ 0 ∷ 0 ∷ 2 ∷ 0 ∷ 0 ∷ 0 ∷ 0 ∷ 2 ∷ 0 ∷ 0 ∷ 0 ∷ 0 ∷ 1 ∷ 0 ∷ 0 ∷ 0 ∷ 0 ∷ 160 ∷ 0 ∷ 2 ∷ 0 ∷ 1 ∷ 3 ∷ 5 ∷ 23 ∷ 1 ∷ 0 ∷ 0 ∷ 0 ∷ 1 ∷ 0 ∷ 0 ∷ 0 ∷ 24 ∷ 18 ∷ 0 ∷ 21 ∷ 22 ∷ 0 ∷ 25 ∷ 21 ∷ 23 ∷ 0 ∷ 25 ∷ 1 ∷ 3 ∷ 5 ∷ 3 ∷ 0 ∷ 7 ∷ 4 ∷ 2 ∷ 1 ∷ 3 ∷ 1 ∷ 2 ∷ 1 ∷ 0 ∷ 0 ∷ 0 ∷ 10 ∷ 4 ∷ 1 ∷ 1 ∷ 3 ∷ 6 ∷ 22 ∷ 159 ∷ 0 ∷ 1 ∷ 3 ∷ 5 ∷ 3 ∷ 0 ∷ 3 ∷ 4 ∷ 9 ∷ 12 ∷ 4 ∷ 3 ∷ 1 ∷ 3 ∷ 6 ∷ 22 ∷ 79 ∷ 0 ∷ 1 ∷ 3 ∷ 1 ∷ 2 ∷ 2 ∷ 0 ∷ 0 ∷ 0 ∷ 10 ∷ 4 ∷ 1 ∷ 21 ∷ 156 ∷ 0 ∷ 3 ∷ 3 ∷ 6 ∷ 22 ∷ 88 ∷ 0 ∷ 21 ∷ 156 ∷ 0 ∷ 1 ∷ 2 ∷ 0 ∷ 0 ∷ 0 ∷ 0 ∷ 6 ∷ 3 ∷ 0 ∷ 3 ∷ 2 ∷ 12 ∷ 18 ∷ 6 ∷ 22 ∷ 156 ∷ 0 ∷ 1 ∷ 3 ∷ 3 ∷ 22 ∷ 105 ∷ 0 ∷ 1 ∷ 2 ∷ 1 ∷ 0 ∷ 0 ∷ 0 ∷ 2 ∷ 0 ∷ 0 ∷ 0 ∷ 0 ∷ 26 ∷ 0 ∷ 4 ∷ 0 ∷ 27 ∷ 0 ∷ 0 ∷ 1 ∷ 0 ∷ 0 ∷ 0 ∷ 145 ∷ 0 ∷ 1 ∷ 28 ∷ 0 ∷ 0 ∷ 1 ∷ 0 ∷ 0 ∷ 0 ∷ 135 ∷ 0 ∷ 1 ∷ 2 ∷ 0 ∷ 0 ∷ 0 ∷ 0 ∷ 3 ∷ 3 ∷ 20 ∷ 4 ∷ 6 ∷ 21 ∷ 159 ∷ 0 ∷ 29 ∷ 6 ∷ 0 ∷ 3 ∷ 0 ∷ 3 ∷ 0 ∷ 255 ∷ 255 ∷ 255 ∷ 255 ∷ []) 160 3 4294967295) ∷
     meaningAt 42 (bytes " PROGRAM INT VAR K_Z90X_AX_Z0AA_A_A9X : DINT ; I : BOOL := FALSE ; B : BOOL ; END : DINT := - 1 ; Q0A0X9Z00AX90XZZ9XAA0X : BOOL := FALSE ; A : DINT ; INT : BOOL ; END_VAR FOR A := ( A ) TO 2#101 BY 16#1 DO FOR END := 5 TO ( K_Z90X_AX_Z0AA_A_A9X ) BY 2#10 DO END_FOR ; END_FOR ; CASE 8#00200000 OF - 9 , - 2#1 : ; ; Q0A0X9Z00AX90XZZ9XAA0X := INT ; IF I THEN ELSE K_Z90X_AX_Z0AA_A_A9X := K_Z90X_AX_Z0AA_A_A9X - 1 ; END_IF ; - 11 : 2147483646 .. 2#1111111111_111111111111111111110 : ELSE END_CASE ; END_PROGRAM") (pos 0 ∷ pos 0 ∷ pos 1 ∷ negsuc 0 ∷ pos 1 ∷ pos 0 ∷ pos 0 ∷ []) 0 14 (pos 0 ∷ pos 0 ∷ pos 1 ∷ pos 5 ∷ pos 1 ∷ pos 5 ∷ pos 0 ∷ []) ∷
@@ -344,6 +345,7 @@ cases3 =
     compiling (bytes " PROGRAM RETURN VAR RETURN : DINT ; END_VAR RETURN := RETURN ; RETURN := + ( 6 MOD ( RETURN ) ) ; ; CASE RETURN OF + 16#5cc7521d : FOR RETURN := - 2#11 TO 0 DO END_FOR ; 11 : RETURN := - ( - ( + ( + 16#9 ) ) ) ; RETURN := ( + ( - ( RETURN - 2#00_1010 * 11 - - RETURN ) * ( ( 4 / 65536 ) / 16#4 ) ) ) MOD ( RETURN - ( 46341 * RETURN ) ) ; 1 .. 6 , - 2#11001100011001111011000010100 , - 16#f .. - 2#1111 : - 1 .. 0 : ELSE END_CASE ; END_PROGRAM") (accepted (5 ∷ 0 ∷ 1 ∷ 0 ∷ 2 ∷ 0 ∷ 0 ∷ 0 ∷ 0 ∷ 218 ∷ 0 ∷ 2 ∷ 0 ∷ 1 ∷ 3 ∷ 0 ∷ 4 ∷ 0 ∷ 1 ∷ 2 ∷ 6 ∷ 0 ∷ 0 ∷ 0 ∷ 3 ∷ 0 ∷ 9 ∷ 4 ∷ 0 ∷ 1 ∷ 3 ∷ 0 ∷ 23 ∷ 29 ∷ 82 ∷ 199 ∷ 92 ∷ 29 ∷ 82 ∷ 199 ∷ 92 ∷ 24 ∷ 34 ∷ 0 ∷ 21 ∷ 73 ∷ 0 ∷ 25 ∷ 1 ∷ 2 ∷ 3 ∷ 0 ∷ 0 ∷ 0 ∷ 5 ∷ 2 ∷ 0 ∷ 0 ∷ 0 ∷ 0 ∷ 26 ∷ 0 ∷ 4 ∷ 0 ∷ 27 ∷ 0 ∷ 0 ∷ 1 ∷ 0 ∷ 0 ∷ 0 ∷ 70 ∷ 0 ∷ 1 ∷ 28 ∷ 0 ∷ 0 ∷ 1 ∷ 0 ∷ 0 ∷ 0 ∷ 60 ∷ 0 ∷ 21 ∷ 217 ∷ 0 ∷ 23 ∷ 11 ∷ 0 ∷ 0 ∷ 0 ∷ 11 ∷ 0 ∷ 0 ∷ 0 ∷ 24 ∷ 88 ∷ 0 ∷ 21 ∷ 154 ∷ 0 ∷ 25 ∷ 1 ∷ 2 ∷ 9 ∷ 0 ∷ 0 ∷ 0 ∷ 5 ∷ 5 ∷ 4 ∷ 0 ∷ 1 ∷ 3 ∷ 0 ∷ 2 ∷ 10 ∷ 0 ∷ 0 ∷ 0 ∷ 2 ∷ 11 ∷ 0 ∷ 0 ∷ 0 ∷ 7 ∷ 11 ∷ 3 ∷ 0 ∷ 5 ∷ 11 ∷ 5 ∷ 2 ∷ 4 ∷ 0 ∷ 0 ∷ 0 ∷ 2 ∷ 0 ∷ 0 ∷ 1 ∷ 0 ∷ 8 ∷ 2 ∷ 4 ∷ 0 ∷ 0 ∷ 0 ∷ 8 ∷ 7 ∷ 3 ∷ 0 ∷ 2 ∷ 5 ∷ 181 ∷ 0 ∷ 0 ∷ 3 ∷ 0 ∷ 7 ∷ 11 ∷ 9 ∷ 4 ∷ 0 ∷ 21 ∷ 217 ∷ 0 ∷ 23 ∷ 1 ∷ 0 ∷ 0 ∷ 0 ∷ 6 ∷ 0 ∷ 0 ∷ 0 ∷ 24 ∷ 193 ∷ 0 ∷ 23 ∷ 236 ∷ 9 ∷ 115 ∷ 230 ∷ 236 ∷ 9 ∷ 115 ∷ 230 ∷ 24 ∷ 193 ∷ 0 ∷ 23 ∷ 241 ∷ 255 ∷ 255 ∷ 255 ∷ 241 ∷ 255 ∷ 255 ∷ 255 ∷ 24 ∷ 193 ∷ 0 ∷ 21 ∷ 197 ∷ 0 ∷ 25 ∷ 21 ∷ 217 ∷ 0 ∷ 23 ∷ 255 ∷ 255 ∷ 255 ∷ 255 ∷ 0 ∷ 0 ∷ 0 ∷ 0 ∷ 24 ∷ 212 ∷ 0 ∷ 21 ∷ 216 ∷ 0 ∷ 25 ∷ 21 ∷ 217 ∷ 0 ∷ 25 ∷ 29 ∷ 6 ∷ 0 ∷ 3 ∷ 0 ∷ 4 ∷ 0 ∷ 8 ∷ 0 ∷ 0 ∷ 0 ∷ []) 218 4 8) ∷
     compiling (bytes "PROGRAM P VAR A:DINT; B:DINT; C:DINT; I:DINT; X:BOOL; END_VAR\nWHILE X DO CASE A OF 1: ; ELSE IF X THEN ; ELSE REPEAT WHILE X DO IF X THEN ; ELSE IF X THEN IF X THEN CASE A OF 1: ; ELSE WHILE X DO WHILE X DO REPEAT REPEAT WHILE X DO IF X THEN ; ELSIF X THEN IF X THEN ; ELSIF X THEN A:=1; END_IF; END_IF; EXIT; END_WHILE; UNTIL TRUE END_REPEAT; UNTIL TRUE END_REPEAT; EXIT; END_WHILE; EXIT; END_WHILE; END_CASE; END_IF; END_IF; END_IF; EXIT; END_WHILE; UNTIL TRUE END_REPEAT; END_IF; END_CASE; EXIT; END_WHILE;\nEND_PROGRAM") (accepted (25 ∷ 0 ∷ 1 ∷ 0 ∷ 2 ∷ 0 ∷ 0 ∷ 0 ∷ 0 ∷ 2 ∷ 0 ∷ 0 ∷ 0 ∷ 0 ∷ 2 ∷ 0 ∷ 0 ∷ 0 ∷ 0 ∷ 2 ∷ 0 ∷ 0 ∷ 0 ∷ 0 ∷ 1 ∷ 0 ∷ 0 ∷ 0 ∷ 0 ∷ 205 ∷ 0 ∷ 2 ∷ 0 ∷ 1 ∷ 3 ∷ 4 ∷ 22 ∷ 204 ∷ 0 ∷ 1 ∷ 3 ∷ 0 ∷ 23 ∷ 1 ∷ 0 ∷ 0 ∷ 0 ∷ 1 ∷ 0 ∷ 0 ∷ 0 ∷ 24 ∷ 24 ∷ 0 ∷ 21 ∷ 28 ∷ 0 ∷ 25 ∷ 21 ∷ 197 ∷ 0 ∷ 25 ∷ 1 ∷ 3 ∷ 4 ∷ 22 ∷ 38 ∷ 0 ∷ 21 ∷ 197 ∷ 0 ∷ 1 ∷ 1 ∷ 3 ∷ 4 ∷ 22 ∷ 189 ∷ 0 ∷ 1 ∷ 3 ∷ 4 ∷ 22 ∷ 54 ∷ 0 ∷ 21 ∷ 182 ∷ 0 ∷ 1 ∷ 3 ∷ 4 ∷ 22 ∷ 182 ∷ 0 ∷ 1 ∷ 3 ∷ 4 ∷ 22 ∷ 182 ∷ 0 ∷ 1 ∷ 3 ∷ 0 ∷ 23 ∷ 1 ∷ 0 ∷ 0 ∷ 0 ∷ 1 ∷ 0 ∷ 0 ∷ 0 ∷ 24 ∷ 84 ∷ 0 ∷ 21 ∷ 88 ∷ 0 ∷ 25 ∷ 21 ∷ 182 ∷ 0 ∷ 25 ∷ 1 ∷ 3 ∷ 4 ∷ 22 ∷ 182 ∷ 0 ∷ 1 ∷ 3 ∷ 4 ∷ 22 ∷ 175 ∷ 0 ∷ 1 ∷ 1 ∷ 1 ∷ 3 ∷ 4 ∷ 22 ∷ 152 ∷ 0 ∷ 1 ∷ 3 ∷ 4 ∷ 22 ∷ 118 ∷ 0 ∷ 21 ∷ 145 ∷ 0 ∷ 3 ∷ 4 ∷ 22 ∷ 145 ∷ 0 ∷ 1 ∷ 3 ∷ 4 ∷ 22 ∷ 132 ∷ 0 ∷ 21 ∷ 145 ∷ 0 ∷ 3 ∷ 4 ∷ 22 ∷ 145 ∷ 0 ∷ 1 ∷ 2 ∷ 1 ∷ 0 ∷ 0 ∷ 0 ∷ 4 ∷ 0 ∷ 1 ∷ 21 ∷ 152 ∷ 0 ∷ 21 ∷ 103 ∷ 0 ∷ 2 ∷ 1 ∷ 0 ∷ 0 ∷ 0 ∷ 22 ∷ 102 ∷ 0 ∷ 2 ∷ 1 ∷ 0 ∷ 0 ∷ 0 ∷ 22 ∷ 101 ∷ 0 ∷ 1 ∷ 21 ∷ 175 ∷ 0 ∷ 21 ∷ 95 ∷ 0 ∷ 1 ∷ 21 ∷ 182 ∷ 0 ∷ 21 ∷ 89 ∷ 0 ∷ 1 ∷ 21 ∷ 189 ∷ 0 ∷ 21 ∷ 39 ∷ 0 ∷ 2 ∷ 1 ∷ 0 ∷ 0 ∷ 0 ∷ 22 ∷ 38 ∷ 0 ∷ 1 ∷ 21 ∷ 204 ∷ 0 ∷ 21 ∷ 0 ∷ 0 ∷ 29 ∷ 6 ∷ 0 ∷ 3 ∷ 0 ∷ 2 ∷ 0 ∷ 255 ∷ 255 ∷ 255 ∷ 255 ∷ []) 205 2 4294967295) ∷
     meaningAt 3 (bytes "PROGRAM END\nVAR\nA:BOOL;RETURN:BOOL:=FALSE;K0A0X_9:DINT;LF:DINT;END_VAR\rEND_PROGRAM") (pos 1 ∷ pos 0 ∷ pos 0 ∷ negsuc 0 ∷ pos 0 ∷ []) 24 0 (pos 1 ∷ pos 0 ∷ pos 0 ∷ negsuc 0 ∷ pos 0 ∷ []) ∷
+    compiling (80 ∷ 114 ∷ 79 ∷ 103 ∷ 82 ∷ 97 ∷ 109 ∷ 13 ∷ 105 ∷ 32 ∷ 32 ∷ 9 ∷ 86 ∷ 65 ∷ 82 ∷ 9 ∷ 75 ∷ 97 ∷ 90 ∷ 88 ∷ 97 ∷ 57 ∷ 65 ∷ 13 ∷ 58 ∷ 100 ∷ 73 ∷ 110 ∷ 116 ∷ 59 ∷ 217 ∷ 108 ∷ 102 ∷ 32 ∷ 12 ∷ 13 ∷ 58 ∷ 68 ∷ 73 ∷ 78 ∷ 84 ∷ 59 ∷ 107 ∷ 95 ∷ 48 ∷ 97 ∷ 95 ∷ 57 ∷ 122 ∷ 57 ∷ 95 ∷ 120 ∷ 95 ∷ 97 ∷ 95 ∷ 57 ∷ 48 ∷ 122 ∷ 48 ∷ 48 ∷ 95 ∷ 97 ∷ 122 ∷ 97 ∷ 97 ∷ 95 ∷ 122 ∷ 120 ∷ 48 ∷ 48 ∷ 95 ∷ 122 ∷ 57 ∷ 57 ∷ 13 ∷ 58 ∷ 68 ∷ 73 ∷ 78 ∷ 84 ∷ 59 ∷ 13 ∷ 107 ∷ 48 ∷ 57 ∷ 95 ∷ 48 ∷ 122 ∷ 95 ∷ 57 ∷ 120 ∷ 97 ∷ 57 ∷ 97 ∷ 120 ∷ 95 ∷ 57 ∷ 57 ∷ 48 ∷ 120 ∷ 57 ∷ 97 ∷ 48 ∷ 97 ∷ 97 ∷ 57 ∷ 97 ∷ 95 ∷ 122 ∷ 58 ∷ 98 ∷ 111 ∷ 111 ∷ 108 ∷ 13 ∷ 40 ∷ 42 ∷ 32 ∷ 49 ∷ 46 ∷ 46 ∷ 53 ∷ 32 ∷ 58 ∷ 61 ∷ 32 ∷ 32 ∷ 32 ∷ 47 ∷ 47 ∷ 32 ∷ 32 ∷ 42 ∷ 41 ∷ 59 ∷ 107 ∷ 95 ∷ 97 ∷ 48 ∷ 97 ∷ 65 ∷ 48 ∷ 90 ∷ 12 ∷ 32 ∷ 10 ∷ 58 ∷ 32 ∷ 68 ∷ 105 ∷ 78 ∷ 116 ∷ 58 ∷ 61 ∷ 12 ∷ 43 ∷ 56 ∷ 35 ∷ 49 ∷ 55 ∷ 55 ∷ 55 ∷ 55 ∷ 55 ∷ 55 ∷ 55 ∷ 55 ∷ 55 ∷ 55 ∷ 59 ∷ 12 ∷ 75 ∷ 65 ∷ 88 ∷ 58 ∷ 68 ∷ 105 ∷ 110 ∷ 116 ∷ 59 ∷ 101 ∷ 110 ∷ 100 ∷ 95 ∷ 118 ∷ 97 ∷ 114 ∷ 12 ∷ 9 ∷ 47 ∷ 47 ∷ 32 ∷ 40 ∷ 42 ∷ 32 ∷ 69 ∷ 78 ∷ 68 ∷ 95 ∷ 80 ∷ 82 ∷ 79 ∷ 71 ∷ 82 ∷ 65 ∷ 77 ∷ 59 ∷ 13 ∷ 107 ∷ 48 ∷ 57 ∷ 95 ∷ 48 ∷ 122 ∷ 95 ∷ 57 ∷ 120 ∷ 97 ∷ 57 ∷ 97 ∷ 120 ∷ 95 ∷ 57 ∷ 57 ∷ 48 ∷ 120 ∷ 57 ∷ 97 ∷ 48 ∷ 97 ∷ 97 ∷ 57 ∷ 97 ∷ 95 ∷ 122 ∷ 58 ∷ 61 ∷ 12 ∷ 75 ∷ 48 ∷ 57 ∷ 95 ∷ 48 ∷ 122 ∷ 95 ∷ 57 ∷ 88 ∷ 65 ∷ 57 ∷ 97 ∷ 88 ∷ 95 ∷ 57 ∷ 57 ∷ 48 ∷ 120 ∷ 57 ∷ 65 ∷ 48 ∷ 97 ∷ 97 ∷ 57 ∷ 97 ∷ 95 ∷ 90 ∷ 59 ∷ 67 ∷ 65 ∷ 115 ∷ 69 ∷ 13 ∷ 9 ∷ 12 ∷ 108 ∷ 70 ∷ 12 ∷ 79 ∷ 70 ∷ 13 ∷ 48 ∷ 58 ∷ 75 ∷ 48 ∷ 57 ∷ 95 ∷ 48 ∷ 90 ∷ 95 ∷ 57 ∷ 88 ∷ 65 ∷ 57 ∷ 65 ∷ 88 ∷ 95 ∷ 57 ∷ 57 ∷ 48 ∷ 88 ∷ 57 ∷ 65 ∷ 48 ∷ 65 ∷ 65 ∷ 57 ∷ 65 ∷ 95 ∷ 90 ∷ 12 ∷ 13 ∷ 40 ∷ 42 ∷ 32 ∷ 34 ∷ 32 ∷ 42 ∷ 41 ∷ 58 ∷ 61 ∷ 13 ∷ 40 ∷ 42 ∷ 32 ∷ 32 ∷ 47 ∷ 47 ∷ 32 ∷ 32 ∷ 40 ∷ 42 ∷ 41 ∷ 42 ∷ 41 ∷ 32 ∷ 42 ∷ 41 ∷ 110 ∷ 111 ∷ 116 ∷ 32 ∷ 40 ∷ 42 ∷ 32 ∷ 40 ∷ 42 ∷ 32 ∷ 42 ∷ 41 ∷ 32 ∷ 42 ∷ 41 ∷ 40 ∷ 116 ∷ 114 ∷ 117 ∷ 101 ∷ 10 ∷ 10 ∷ 13 ∷ 61 ∷ 50 ∷ 35 ∷ 48 ∷ 95 ∷ 48 ∷ 49 ∷ 48 ∷ 62 ∷ 40 ∷ 107 ∷ 95 ∷ 97 ∷ 48 ∷ 97 ∷ 97 ∷ 48 ∷ 122 ∷ 10 ∷ 10 ∷ 41 ∷ 9 ∷ 41 ∷ 32 ∷ 59 ∷ 9 ∷ 10 ∷ 101 ∷ 110 ∷ 100 ∷ 95 ∷ 99 ∷ 97 ∷ 115 ∷ 101 ∷ 59 ∷ 119 ∷ 72 ∷ 105 ∷ 108 ∷ 101 ∷ 9 ∷ 70 ∷ 65 ∷ 76 ∷ 83 ∷ 69 ∷ 32 ∷ 68 ∷ 79 ∷ 10 ∷ 101 ∷ 120 ∷ 105 ∷ 116 ∷ 9 ∷ 40 ∷ 42 ∷ 32 ∷ 42 ∷ 41 ∷ 12 ∷ 59 ∷ 10 ∷ 73 ∷ 70 ∷ 10 ∷ 12 ∷ 32 ∷ 78 ∷ 79 ∷ 84 ∷ 10 ∷ 75 ∷ 48 ∷ 57 ∷ 95 ∷ 48 ∷ 90 ∷ 95 ∷ 57 ∷ 88 ∷ 65 ∷ 57 ∷ 65 ∷ 88 ∷ 95 ∷ 57 ∷ 57 ∷ 48 ∷ 88 ∷ 57 ∷ 65 ∷ 48 ∷ 65 ∷ 65 ∷ 57 ∷ 65 ∷ 95 ∷ 90 ∷ 9 ∷ 116 ∷ 104 ∷ 69 ∷ 110 ∷ 10 ∷ 67 ∷ 65 ∷ 83 ∷ 69 ∷ 12 ∷ 10 ∷ 75 ∷ 65 ∷ 122 ∷ 120 ∷ 65 ∷ 57 ∷ 97 ∷ 32 ∷ 79 ∷ 102 ∷ 32 ∷ 45 ∷ 13 ∷ 10 ∷ 40 ∷ 42 ∷ 32 ∷ 40 ∷ 42 ∷ 40 ∷ 42 ∷ 42 ∷ 41 ∷ 42 ∷ 41 ∷ 32 ∷ 42 ∷ 42 ∷ 32 ∷ 42 ∷ 41 ∷ 48 ∷ 48 ∷ 53 ∷ 13 ∷ 10 ∷ 32 ∷ 58 ∷ 32 ∷ 32 ∷ 45 ∷ 49 ∷ 57 ∷ 95 ∷ 49 ∷ 49 ∷ 52 ∷ 95 ∷ 54 ∷ 95 ∷ 52 ∷ 57 ∷ 95 ∷ 54 ∷ 48 ∷ 44 ∷ 48 ∷ 46 ∷ 46 ∷ 13 ∷ 43 ∷ 50 ∷ 35 ∷ 49 ∷ 48 ∷ 49 ∷ 9 ∷ 12 ∷ 58 ∷ 12 ∷ 40 ∷ 42 ∷ 32 ∷ 40 ∷ 42 ∷ 40 ∷ 42 ∷ 42 ∷ 41 ∷ 42 ∷ 41 ∷ 32 ∷ 42 ∷ 41 ∷ 10 ∷ 59 ∷ 10 ∷ 75 ∷ 65 ∷ 90 ∷ 88 ∷ 65 ∷ 57 ∷ 65 ∷ 10 ∷ 40 ∷ 42 ∷ 32 ∷ 42 ∷ 41 ∷ 12 ∷ 58 ∷ 61 ∷ 107 ∷ 97 ∷ 90 ∷ 120 ∷ 97 ∷ 57 ∷ 65 ∷ 32 ∷ 59 ∷ 75 ∷ 48 ∷ 57 ∷ 95 ∷ 48 ∷ 90 ∷ 95 ∷ 57 ∷ 120 ∷ 65 ∷ 57 ∷ 97 ∷ 120 ∷ 95 ∷ 57 ∷ 57 ∷ 48 ∷ 120 ∷ 57 ∷ 97 ∷ 48 ∷ 97 ∷ 65 ∷ 57 ∷ 97 ∷ 95 ∷ 90 ∷ 58 ∷ 61 ∷ 75 ∷ 48 ∷ 57 ∷ 95 ∷ 48 ∷ 90 ∷ 95 ∷ 57 ∷ 88 ∷ 65 ∷ 57 ∷ 65 ∷ 88 ∷ 95 ∷ 57 ∷ 57 ∷ 48 ∷ 88 ∷ 57 ∷ 65 ∷ 48 ∷ 65 ∷ 65 ∷ 57 ∷ 65 ∷ 95 ∷ 90 ∷ 10 ∷ 47 ∷ 47 ∷ 47 ∷ 42 ∷ 42 ∷ 41 ∷ 12 ∷ 9 ∷ 79 ∷ 114 ∷ 9 ∷ 70 ∷ 65 ∷ 76 ∷ 83 ∷ 69 ∷ 59 ∷ 12 ∷ 40 ∷ 42 ∷ 32 ∷ 40 ∷ 42 ∷ 40 ∷ 42 ∷ 42 ∷ 41 ∷ 42 ∷ 41 ∷ 32 ∷ 42 ∷ 41 ∷ 10 ∷ 69 ∷ 78 ∷ 68 ∷ 95 ∷ 67 ∷ 65 ∷ 83 ∷ 69 ∷ 59 ∷ 75 ∷ 48 ∷ 57 ∷ 95 ∷ 48 ∷ 90 ∷ 95 ∷ 57 ∷ 88 ∷ 65 ∷ 57 ∷ 65 ∷ 88 ∷ 95 ∷ 57 ∷ 57 ∷ 48 ∷ 88 ∷ 57 ∷ 65 ∷ 48 ∷ 65 ∷ 65 ∷ 57 ∷ 65 ∷ 95 ∷ 90 ∷ 13 ∷ 58 ∷ 61 ∷ 12 ∷ 70 ∷ 65 ∷ 76 ∷ 83 ∷ 69 ∷ 10 ∷ 59 ∷ 75 ∷ 48 ∷ 57 ∷ 95 ∷ 48 ∷ 90 ∷ 95 ∷ 57 ∷ 88 ∷ 65 ∷ 57 ∷ 65 ∷ 88 ∷ 95 ∷ 57 ∷ 57 ∷ 48 ∷ 88 ∷ 57 ∷ 65 ∷ 48 ∷ 65 ∷ 65 ∷ 57 ∷ 65 ∷ 95 ∷ 90 ∷ 12 ∷ 58 ∷ 61 ∷ 78 ∷ 111 ∷ 116 ∷ 40 ∷ 10 ∷ 40 ∷ 42 ∷ 32 ∷ 40 ∷ 42 ∷ 41 ∷ 42 ∷ 41 ∷ 32 ∷ 47 ∷ 42 ∷ 32 ∷ 42 ∷ 41 ∷ 13 ∷ 110 ∷ 79 ∷ 84 ∷ 12 ∷ 32 ∷ 107 ∷ 48 ∷ 57 ∷ 95 ∷ 48 ∷ 122 ∷ 95 ∷ 57 ∷ 120 ∷ 97 ∷ 57 ∷ 97 ∷ 120 ∷ 95 ∷ 57 ∷ 57 ∷ 48 ∷ 120 ∷ 57 ∷ 97 ∷ 48 ∷ 97 ∷ 97 ∷ 57 ∷ 97 ∷ 95 ∷ 122 ∷ 41 ∷ 12 ∷ 12 ∷ 59 ∷ 10 ∷ 13 ∷ 69 ∷ 76 ∷ 83 ∷ 69 ∷ 10 ∷ 107 ∷ 97 ∷ 120 ∷ 58 ∷ 61 ∷ 9 ∷ 10 ∷ 45 ∷ 40 ∷ 40 ∷ 32 ∷ 45 ∷ 40 ∷ 40 ∷ 107 ∷ 65 ∷ 90 ∷ 120 ∷ 65 ∷ 57 ∷ 97 ∷ 42 ∷ 107 ∷ 95 ∷ 48 ∷ 97 ∷ 95 ∷ 57 ∷ 90 ∷ 57 ∷ 95 ∷ 120 ∷ 95 ∷ 65 ∷ 95 ∷ 57 ∷ 48 ∷ 90 ∷ 48 ∷ 48 ∷ 95 ∷ 65 ∷ 90 ∷ 97 ∷ 97 ∷ 95 ∷ 90 ∷ 88 ∷ 48 ∷ 48 ∷ 95 ∷ 122 ∷ 57 ∷ 57 ∷ 41 ∷ 42 ∷ 40 ∷ 32 ∷ 75 ∷ 65 ∷ 88 ∷ 45 ∷ 53 ∷ 10 ∷ 10 ∷ 41 ∷ 41 ∷ 41 ∷ 42 ∷ 40 ∷ 10 ∷ 40 ∷ 42 ∷ 32 ∷ 32 ∷ 47 ∷ 47 ∷ 32 ∷ 32 ∷ 34 ∷ 32 ∷ 42 ∷ 41 ∷ 43 ∷ 40 ∷ 50 ∷ 10 ∷ 12 ∷ 109 ∷ 111 ∷ 100 ∷ 9 ∷ 76 ∷ 102 ∷ 41 ∷ 47 ∷ 40 ∷ 49 ∷ 54 ∷ 35 ∷ 52 ∷ 13 ∷ 42 ∷ 10 ∷ 40 ∷ 9 ∷ 32 ∷ 10 ∷ 107 ∷ 95 ∷ 65 ∷ 48 ∷ 65 ∷ 65 ∷ 48 ∷ 122 ∷ 10 ∷ 13 ∷ 43 ∷ 12 ∷ 47 ∷ 47 ∷ 69 ∷ 78 ∷ 68 ∷ 95 ∷ 80 ∷ 82 ∷ 79 ∷ 71 ∷ 82 ∷ 65 ∷ 77 ∷ 59 ∷ 47 ∷ 42 ∷ 10 ∷ 49 ∷ 54 ∷ 35 ∷ 66 ∷ 10 ∷ 32 ∷ 41 ∷ 47 ∷ 9 ∷ 40 ∷ 32 ∷ 13 ∷ 45 ∷ 40 ∷ 40 ∷ 12 ∷ 76 ∷ 70 ∷ 41 ∷ 42 ∷ 12 ∷ 40 ∷ 42 ∷ 32 ∷ 42 ∷ 41 ∷ 75 ∷ 95 ∷ 65 ∷ 48 ∷ 65 ∷ 65 ∷ 48 ∷ 90 ∷ 47 ∷ 9 ∷ 40 ∷ 42 ∷ 32 ∷ 49 ∷ 46 ∷ 46 ∷ 53 ∷ 32 ∷ 58 ∷ 61 ∷ 32 ∷ 32 ∷ 42 ∷ 41 ∷ 40 ∷ 75 ∷ 95 ∷ 65 ∷ 48 ∷ 65 ∷ 65 ∷ 48 ∷ 90 ∷ 9 ∷ 109 ∷ 79 ∷ 68 ∷ 9 ∷ 47 ∷ 47 ∷ 12 ∷ 40 ∷ 75 ∷ 95 ∷ 48 ∷ 65 ∷ 95 ∷ 57 ∷ 90 ∷ 57 ∷ 95 ∷ 88 ∷ 95 ∷ 65 ∷ 95 ∷ 57 ∷ 48 ∷ 90 ∷ 48 ∷ 48 ∷ 95 ∷ 65 ∷ 90 ∷ 65 ∷ 65 ∷ 95 ∷ 90 ∷ 88 ∷ 48 ∷ 48 ∷ 95 ∷ 90 ∷ 57 ∷ 57 ∷ 41 ∷ 9 ∷ 10 ∷ 41 ∷ 47 ∷ 32 ∷ 75 ∷ 95 ∷ 65 ∷ 48 ∷ 97 ∷ 97 ∷ 48 ∷ 90 ∷ 10 ∷ 32 ∷ 41 ∷ 41 ∷ 12 ∷ 41 ∷ 41 ∷ 41 ∷ 59 ∷ 107 ∷ 95 ∷ 97 ∷ 48 ∷ 97 ∷ 97 ∷ 48 ∷ 122 ∷ 58 ∷ 61 ∷ 49 ∷ 10 ∷ 40 ∷ 42 ∷ 32 ∷ 42 ∷ 41 ∷ 59 ∷ 101 ∷ 110 ∷ 100 ∷ 95 ∷ 105 ∷ 102 ∷ 10 ∷ 32 ∷ 12 ∷ 59 ∷ 75 ∷ 48 ∷ 57 ∷ 95 ∷ 48 ∷ 90 ∷ 95 ∷ 57 ∷ 88 ∷ 65 ∷ 57 ∷ 65 ∷ 88 ∷ 95 ∷ 57 ∷ 57 ∷ 48 ∷ 88 ∷ 57 ∷ 65 ∷ 48 ∷ 65 ∷ 65 ∷ 57 ∷ 65 ∷ 95 ∷ 90 ∷ 58 ∷ 61 ∷ 75 ∷ 48 ∷ 57 ∷ 95 ∷ 48 ∷ 90 ∷ 95 ∷ 57 ∷ 88 ∷ 65 ∷ 57 ∷ 65 ∷ 88 ∷ 95 ∷ 57 ∷ 57 ∷ 48 ∷ 88 ∷ 57 ∷ 65 ∷ 48 ∷ 65 ∷ 65 ∷ 57 ∷ 65 ∷ 95 ∷ 90 ∷ 59 ∷ 9 ∷ 13 ∷ 75 ∷ 48 ∷ 57 ∷ 95 ∷ 48 ∷ 90 ∷ 95 ∷ 57 ∷ 88 ∷ 65 ∷ 57 ∷ 65 ∷ 88 ∷ 95 ∷ 57 ∷ 57 ∷ 48 ∷ 88 ∷ 57 ∷ 65 ∷ 48 ∷ 65 ∷ 65 ∷ 57 ∷ 65 ∷ 95 ∷ 90 ∷ 58 ∷ 61 ∷ 32 ∷ 47 ∷ 47 ∷ 32 ∷ 40 ∷ 42 ∷ 32 ∷ 69 ∷ 78 ∷ 68 ∷ 95 ∷ 80 ∷ 82 ∷ 79 ∷ 71 ∷ 82 ∷ 65 ∷ 77 ∷ 59 ∷ 12 ∷ 56 ∷ 35 ∷ 48 ∷ 48 ∷ 49 ∷ 50 ∷ 12 ∷ 47 ∷ 47 ∷ 47 ∷ 42 ∷ 120 ∷ 12 ∷ 12 ∷ 60 ∷ 62 ∷ 107 ∷ 97 ∷ 88 ∷ 43 ∷ 10 ∷ 50 ∷ 35 ∷ 49 ∷ 45 ∷ 107 ∷ 95 ∷ 97 ∷ 48 ∷ 97 ∷ 97 ∷ 48 ∷ 122 ∷ 13 ∷ 59 ∷ 9 ∷ 10 ∷ 69 ∷ 78 ∷ 68 ∷ 95 ∷ 87 ∷ 72 ∷ 73 ∷ 76 ∷ 69 ∷ 10 ∷ 47 ∷ 47 ∷ 47 ∷ 47 ∷ 13 ∷ 9 ∷ 59 ∷ 70 ∷ 79 ∷ 82 ∷ 9 ∷ 10 ∷ 32 ∷ 107 ∷ 95 ∷ 65 ∷ 48 ∷ 65 ∷ 97 ∷ 48 ∷ 122 ∷ 58 ∷ 61 ∷ 40 ∷ 9 ∷ 10 ∷ 56 ∷ 10 ∷ 47 ∷ 47 ∷ 47 ∷ 47 ∷ 13 ∷ 47 ∷ 47 ∷ 42 ∷ 41 ∷ 47 ∷ 42 ∷ 12 ∷ 41 ∷ 84 ∷ 79 ∷ 10 ∷ 49 ∷ 32 ∷ 98 ∷ 121 ∷ 45 ∷ 50 ∷ 35 ∷ 49 ∷ 48 ∷ 32 ∷ 68 ∷ 79 ∷ 32 ∷ 9 ∷ 47 ∷ 47 ∷ 47 ∷ 47 ∷ 47 ∷ 47 ∷ 13 ∷ 101 ∷ 110 ∷ 100 ∷ 95 ∷ 102 ∷ 111 ∷ 114 ∷ 9 ∷ 9 ∷ 40 ∷ 42 ∷ 32 ∷ 42 ∷ 41 ∷ 59 ∷ 101 ∷ 78 ∷ 68 ∷ 95 ∷ 80 ∷ 114 ∷ 79 ∷ 71 ∷ 114 ∷ 65 ∷ 77 ∷ []) (refused 2 30) ∷
     image (20 ∷ 0 ∷ 1 ∷ 0 ∷ 2 ∷ 0 ∷ 0 ∷ 0 ∷ 0 ∷ 2 ∷ 0 ∷ 0 ∷ 0 ∷ 0 ∷ 1 ∷ 0 ∷ 0 ∷ 0 ∷ 0 ∷ 2 ∷ 0 ∷ 0 ∷ 0 ∷ 0 ∷ 66 ∷ 0 ∷ 2 ∷ 0 ∷ 1 ∷ 3 ∷ 0 ∷ 3 ∷ 3 ∷ 16 ∷ 3 ∷ 2 ∷ 6 ∷ 3 ∷ 2 ∷ 17 ∷ 19 ∷ 22 ∷ 46 ∷ 0 ∷ 1 ∷ 2 ∷ 0 ∷ 0 ∷ 0 ∷ 0 ∷ 4 ∷ 2 ∷ 1 ∷ 2 ∷ 1 ∷ 0 ∷ 0 ∷ 0 ∷ 4 ∷ 2 ∷ 1 ∷ 3 ∷ 1 ∷ 2 ∷ 10 ∷ 0 ∷ 0 ∷ 0 ∷ 12 ∷ 4 ∷ 2 ∷ 21 ∷ 0 ∷ 0 ∷ 1 ∷ 3 ∷ 3 ∷ 3 ∷ 1 ∷ 13 ∷ 4 ∷ 2 ∷ 1 ∷ 3 ∷ 3 ∷ 2 ∷ 2 ∷ 0 ∷ 0 ∷ 0 ∷ 10 ∷ 4 ∷ 3 ∷ 29 ∷ 6 ∷ 0 ∷ 3 ∷ 0 ∷ 3 ∷ 0 ∷ 255 ∷ 255 ∷ 255 ∷ 255 ∷ []) (pos 2147483646 ∷ negsuc 17 ∷ pos 0 ∷ pos 0 ∷ []) 175 (report 20 175 962 32 (pos 2147483646 ∷ negsuc 17 ∷ pos 1 ∷ pos 0 ∷ [])) ∷
     compilingIn (bytes "PROGRAM P VAR A:DINT; B:DINT; C:DINT; I:DINT; X:BOOL; END_VAR\nIF X THEN CASE A OF 1: ; ELSE IF X THEN REPEAT IF X THEN WHILE X DO REPEAT WHILE X DO WHILE X DO IF X THEN ; ELSIF X THEN CASE A OF 1: ; ELSE IF X THEN ; ELSE REPEAT REPEAT CASE A OF 1: ; ELSE IF X THEN ; ELSE IF X THEN ; ELSE  END_IF; END_IF; END_CASE; UNTIL TRUE END_REPEAT; UNTIL TRUE END_REPEAT; END_IF; END_CASE; END_IF; EXIT; END_WHILE; EXIT; END_WHILE; UNTIL TRUE END_REPEAT; EXIT; END_WHILE; END_IF; UNTIL TRUE END_REPEAT; END_IF; END_CASE; END_IF;\nEND_PROGRAM") 39 (refused 10 272) ∷
     compiling (bytes " PROGRAM _ZZX0XXZ_0AX0A9A9XXX_AZZ99 VAR LF : BOOL := TRUE ; KA_Z : DINT := 1300934796 ; A : DINT ; END_VAR EN") (refused 5 109) ∷
@@ -393,6 +395,7 @@ cases3 =
     image (5 ∷ 0 ∷ 1 ∷ 0 ∷ 1 ∷ 1 ∷ 0 ∷ 0 ∷ 0 ∷ 168 ∷ 0 ∷ 2 ∷ 0 ∷ 2 ∷ 1 ∷ 0 ∷ 0 ∷ 0 ∷ 2 ∷ 1 ∷ 0 ∷ 0 ∷ 0 ∷ 2 ∷ 1 ∷ 0 ∷ 0 ∷ 0 ∷ 2 ∷ 1 ∷ 0 ∷ 0 ∷ 0 ∷ 2 ∷ 1 ∷ 0 ∷ 0 ∷ 0 ∷ 2 ∷ 1 ∷ 0 ∷ 0 ∷ 0 ∷ 2 ∷ 1 ∷ 0 ∷ 0 ∷ 0 ∷ 2 ∷ 1 ∷ 0 ∷ 0 ∷ 0 ∷ 2 ∷ 1 ∷ 0 ∷ 0 ∷ 0 ∷ 2 ∷ 1 ∷ 0 ∷ 0 ∷ 0 ∷ 2 ∷ 1 ∷ 0 ∷ 0 ∷ 0 ∷ 2 ∷ 1 ∷ 0 ∷ 0 ∷ 0 ∷ 2 ∷ 1 ∷ 0 ∷ 0 ∷ 0 ∷ 2 ∷ 1 ∷ 0 ∷ 0 ∷ 0 ∷ 2 ∷ 1 ∷ 0 ∷ 0 ∷ 0 ∷ 2 ∷ 1 ∷ 0 ∷ 0 ∷ 0 ∷ 2 ∷ 1 ∷ 0 ∷ 0 ∷ 0 ∷ 2 ∷ 1 ∷ 0 ∷ 0 ∷ 0 ∷ 2 ∷ 1 ∷ 0 ∷ 0 ∷ 0 ∷ 2 ∷ 1 ∷ 0 ∷ 0 ∷ 0 ∷ 2 ∷ 1 ∷ 0 ∷ 0 ∷ 0 ∷ 2 ∷ 1 ∷ 0 ∷ 0 ∷ 0 ∷ 2 ∷ 1 ∷ 0 ∷ 0 ∷ 0 ∷ 2 ∷ 1 ∷ 0 ∷ 0 ∷ 0 ∷ 2 ∷ 1 ∷ 0 ∷ 0 ∷ 0 ∷ 2 ∷ 1 ∷ 0 ∷ 0 ∷ 0 ∷ 2 ∷ 1 ∷ 0 ∷ 0 ∷ 0 ∷ 2 ∷ 1 ∷ 0 ∷ 0 ∷ 0 ∷ 2 ∷ 1 ∷ 0 ∷ 0 ∷ 0 ∷ 2 ∷ 1 ∷ 0 ∷ 0 ∷ 0 ∷ 2 ∷ 1 ∷ 0 ∷ 0 ∷ 0 ∷ 27 ∷ 10 ∷ 0 ∷ 0 ∷ 0 ∷ 0 ∷ 0 ∷ 87 ∷ 0 ∷ 3 ∷ 0 ∷ 1 ∷ 29 ∷ 6 ∷ 0 ∷ 3 ∷ 0 ∷ 8 ∷ 0 ∷ 83 ∷ 10 ∷ 37 ∷ 179 ∷ []) (pos 0 ∷ []) 1 (report 25 0 31 155 (pos 0 ∷ [])) ∷
     meaningAt 3 (bytes " PROGRAM B VAR A : DINT ; END_VAR A := A ; A := 8#6 MOD A ; ; A := - ( A / A ) / ( ( A ) ) ; A := ( A ) * 1 + A ; A := A * 2 ; A := A + 2 ; ; A := ( ( A ) ) ; FOR A := 16#0 TO 4 BY 8#001 DO END_FOR ; ; A := 16#003 ; REPEAT ; ; ; CASE A - ( A ) * 16#1 OF 282909597 .. 2_82909598 , + 8#1 .. 2#1111111111111_111111111111111111 : A := A * 2 ; IF ( + A ) MOD 2 > 2147483646 + A THEN ; ELSE END_IF ; ELSE A := A ; FOR A := 4 TO + ( A + A ) DO ; ; END_FOR ; IF TRUE THEN FOR A := 8#5 TO 2 BY 2#1 DO ; ; END_FOR ; A := A + ( ( A ) * ( A - 6 ) ) ; ELSE ; FOR A := 3 TO 5 DO ; END_FOR ; END_IF ; CASE A OF 8#13 : FOR A := - 1 TO - ( A + ( 2#0 ) ) BY 2 DO ; ; END_FOR ; A := A - 1 ; + 16#1 : ; - 16#1 : EXIT ; A := A + 2 ; - 7 : ELSE END_CASE ; END_CASE ; UNTIL TRUE END_REPEAT ; END_PROGRAM") (negsuc 4 ∷ []) 20 3 (negsuc 0 ∷ []) ∷
     image (35 ∷ 0 ∷ 1 ∷ 0 ∷ 2 ∷ 19 ∷ 0 ∷ 0 ∷ 0 ∷ 1 ∷ 0 ∷ 0 ∷ 0 ∷ 0 ∷ 2 ∷ 255 ∷ 255 ∷ 255 ∷ 255 ∷ 2 ∷ 0 ∷ 0 ∷ 0 ∷ 0 ∷ 1 ∷ 0 ∷ 0 ∷ 0 ∷ 0 ∷ 1 ∷ 0 ∷ 0 ∷ 0 ∷ 0 ∷ 1 ∷ 0 ∷ 0 ∷ 0 ∷ 0 ∷ 21 ∷ 0 ∷ 2 ∷ 0 ∷ 1 ∷ 3 ∷ 0 ∷ 2 ∷ 3 ∷ 0 ∷ 18 ∷ 0 ∷ 9 ∷ 2 ∷ 9 ∷ 0 ∷ 0 ∷ 0 ∷ 143 ∷ 3 ∷ 0 ∷ 10 ∷ 4 ∷ 3 ∷ 29 ∷ 6 ∷ 0 ∷ 3 ∷ 0 ∷ 2 ∷ 0 ∷ 1 ∷ 0 ∷ 0 ∷ 0 ∷ []) (pos 15 ∷ pos 0 ∷ pos 0 ∷ negsuc 0 ∷ pos 0 ∷ pos 1 ∷ pos 1 ∷ []) 0 (report 20 0 0 0 (pos 15 ∷ pos 0 ∷ pos 0 ∷ negsuc 0 ∷ pos 0 ∷ pos 1 ∷ pos 1 ∷ [])) ∷
+    compiling (bytes "PROGRAM P VAR V0:DINT:=0; V1:DINT:=1; V2:DINT:=2; V3:DINT:=3; V4:DINT:=4; V5:DINT:=5; V6:DINT:=6; V7:DINT:=7; V8:DINT:=8; V9:DINT:=9; V10:DINT:=10; V11:DINT:=11; V12:DINT:=12; V13:DINT:=13; V14:DINT:=14; V15:DINT:=15; V16:DINT:=16; V17:DINT:=17; V18:DINT:=18; V19:DINT:=19; V20:DINT:=20; V21:DINT:=21; V22:DINT:=22; V23:DINT:=23; V24:DINT:=24; V25:DINT:=25; V26:DINT:=26; V27:DINT:=27; V28:DINT:=28; V29:DINT:=29; V30:DINT:=30; V31:DINT:=31; V32:DINT:=32; V33:DINT:=33; V34:DINT:=34; V35:DINT:=35; V36:DINT:=36; V37:DINT:=37; V38:DINT:=38; V39:DINT:=39; V40:DINT:=40; V41:DINT:=41; V42:DINT:=42; V43:DINT:=43; V44:DINT:=44; V45:DINT:=45; V46:DINT:=46; V47:DINT:=47; V48:DINT:=48; V49:DINT:=49; V50:DINT:=50; V51:DINT:=51; V52:DINT:=52; V53:DINT:=53; V54:DINT:=54; V55:DINT:=55; V56:DINT:=56; V57:DINT:=57; V58:DINT:=58; V59:DINT:=59; V60:DINT:=60; V61:DINT:=61; V3:DINT; END_VAR V0:=V62; END_PROGRAM") (refused 6 862) ∷
     compiling (bytes "PROGRAM RETURN\tVAR _Z_Z_ZA_ZZZ:DINT:=\n-1;B:DINT;EXIT;RETURN:DINT;I:BOOL;K_009AXZ:DINT:=\t-15;K09X00_ZA_X0Z0999_ZA0X:BOOL;INT:DINT;END_VAR\rI:=RETURN+8#10=8#4*B;INT:=2+_Z_Z_ZA_ZZZ;_Z_Z_ZA_ZZZ:=_Z_Z_ZA_ZZZ+1;I:=K09X00_ZA_X0Z0999_ZA0X;END_PROGRAM\t") (refused 5 48) ∷
     image (10 ∷ 0 ∷ 1 ∷ 0 ∷ 2 ∷ 6 ∷ 0 ∷ 0 ∷ 0 ∷ 1 ∷ 1 ∷ 0 ∷ 0 ∷ 0 ∷ 41 ∷ 0 ∷ 2 ∷ 0 ∷ 9 ∷ 16 ∷ 6 ∷ 11 ∷ 7 ∷ 5 ∷ 20 ∷ 29 ∷ 19 ∷ 1 ∷ 0 ∷ 9 ∷ 26 ∷ 3 ∷ 24 ∷ 12 ∷ 13 ∷ 30 ∷ 20 ∷ 6 ∷ 26 ∷ 16 ∷ 10 ∷ 12 ∷ 7 ∷ 5 ∷ 12 ∷ 8 ∷ 13 ∷ 22 ∷ 2 ∷ 10 ∷ 21 ∷ 1 ∷ 7 ∷ 7 ∷ 17 ∷ 21 ∷ 7 ∷ 29 ∷ 2 ∷ 6 ∷ 0 ∷ 3 ∷ 0 ∷ 56 ∷ 0 ∷ 30 ∷ 248 ∷ 0 ∷ 89 ∷ []) (pos 7 ∷ pos 1 ∷ []) 33 (report 25 0 0 0 (pos 7 ∷ pos 1 ∷ [])) ∷
     compiling (bytes "PROGRAM NNNNNNNNNNNNNNNNNNNNNNNNNNNNNNNN END_PROGRAM") (accepted (0 ∷ 0 ∷ 1 ∷ 0 ∷ 1 ∷ 0 ∷ 2 ∷ 0 ∷ 29 ∷ 6 ∷ 0 ∷ 3 ∷ 0 ∷ 0 ∷ 0 ∷ 0 ∷ 0 ∷ 0 ∷ 0 ∷ []) 1 0 0) ∷
@@ -418,13 +421,13 @@ cases3 =
     meaningAt 2880 (bytes "PROGRAM\u{c}_1 VAR\rB:DINT;RETURN:DINT;LF:BOOL:=FALSE;_1:DINT;KZ9_0XX9ZA:BOOL;A:DINT:=\n-16;_ZZX9_Z_A_9XZ_9Z_9X9X00Z:BOOL:=TRUE;END_VAR\r_ZZX9_Z_A_9XZ_9Z_9X9X00Z:=3+1>=\u{c}-2#1001;_ZZX9_Z_A_9XZ_9Z_9X9X00Z:=_ZZX9_Z_A_9XZ_9Z_9X9X00Z;CASE 8#13\rOF\n00982236372..8#7242736331,21474836_46:B:=B;RETURN:=A-RETURN\tMOD 16#7\rMOD\t_1;2#0,-12,1:1:END_CASE;END_PROGRAM") (negsuc 19 ∷ pos 0 ∷ pos 0 ∷ pos 6 ∷ pos 1 ∷ pos 4 ∷ pos 1 ∷ []) 0 3 (negsuc 19 ∷ pos 0 ∷ pos 0 ∷ pos 6 ∷ pos 1 ∷ pos 4 ∷ pos 1 ∷ []) ∷
     compiling (bytes "PROGRAM P VAR A:DINT; B:DINT; C:DINT; I:DINT; X:BOOL; END_VAR\nX:=NOT A=B;\nEND_PROGRAM") (refused 8 65) ∷
     meaningAt 44 (bytes "PROGRAM P VAR A:DINT; B:DINT; C:DINT; I:DINT; X:BOOL; END_VAR\nFOR A:=1 TO 0 DO FOR I:=-2147483647 TO 2147483647 DO FOR B:=-2147483647 TO 2147483647 DO C:=1; END_FOR; END_FOR; END_FOR;\nEND_PROGRAM") (pos 2147483646 ∷ negsuc 0 ∷ pos 1 ∷ negsuc 295141685 ∷ pos 0 ∷ []) 0 1 (pos 1 ∷ negsuc 0 ∷ pos 1 ∷ negsuc 295141685 ∷ pos 0 ∷ []) ∷
-    compiling (bytes " PROGRAM LF VAR END_VAR ; ; ; ; ; ; ; ; END_PROGRAM") (accepted (0 ∷ 0 ∷ 1 ∷ 0 ∷ 1 ∷ 0 ∷ 2 ∷ 0 ∷ 29 ∷ 6 ∷ 0 ∷ 3 ∷ 0 ∷ 0 ∷ 0 ∷ 0 ∷ 0 ∷ 0 ∷ 0 ∷ []) 1 0 0) ∷
-    filling (10 ∷ 0 ∷ 1 ∷ 0 ∷ 2 ∷ 0 ∷ 0 ∷ 0 ∷ 0 ∷ 2 ∷ 0 ∷ 0 ∷ 0 ∷ 0 ∷ 1 ∷ 255 ∷ 2 ∷ 0 ∷ 29 ∷ 6 ∷ 0 ∷ 3 ∷ 0 ∷ 0 ∷ 0 ∷ 0 ∷ 0 ∷ 0 ∷ 0 ∷ []) (pos 0 ∷ pos 0 ∷ []) 23 (pos 0 ∷ pos 0 ∷ []) ∷
-    filling (0 ∷ 0 ∷ 1 ∷ 0 ∷ 13 ∷ 0 ∷ 2 ∷ 0 ∷ 11 ∷ 25 ∷ 27 ∷ 21 ∷ 24 ∷ 17 ∷ 9 ∷ 23 ∷ 24 ∷ 20 ∷ 14 ∷ 18 ∷ 22 ∷ 6 ∷ 0 ∷ 3 ∷ 0 ∷ 3 ∷ 0 ∷ 46 ∷ 189 ∷ 243 ∷ 46 ∷ []) [] 0 [] ∷
     []
 
 cases4 : List Case
 cases4 =
+    compiling (bytes " PROGRAM LF VAR END_VAR ; ; ; ; ; ; ; ; END_PROGRAM") (accepted (0 ∷ 0 ∷ 1 ∷ 0 ∷ 1 ∷ 0 ∷ 2 ∷ 0 ∷ 29 ∷ 6 ∷ 0 ∷ 3 ∷ 0 ∷ 0 ∷ 0 ∷ 0 ∷ 0 ∷ 0 ∷ 0 ∷ []) 1 0 0) ∷
+    filling (10 ∷ 0 ∷ 1 ∷ 0 ∷ 2 ∷ 0 ∷ 0 ∷ 0 ∷ 0 ∷ 2 ∷ 0 ∷ 0 ∷ 0 ∷ 0 ∷ 1 ∷ 255 ∷ 2 ∷ 0 ∷ 29 ∷ 6 ∷ 0 ∷ 3 ∷ 0 ∷ 0 ∷ 0 ∷ 0 ∷ 0 ∷ 0 ∷ 0 ∷ []) (pos 0 ∷ pos 0 ∷ []) 23 (pos 0 ∷ pos 0 ∷ []) ∷
+    filling (0 ∷ 0 ∷ 1 ∷ 0 ∷ 13 ∷ 0 ∷ 2 ∷ 0 ∷ 11 ∷ 25 ∷ 27 ∷ 21 ∷ 24 ∷ 17 ∷ 9 ∷ 23 ∷ 24 ∷ 20 ∷ 14 ∷ 18 ∷ 22 ∷ 6 ∷ 0 ∷ 3 ∷ 0 ∷ 3 ∷ 0 ∷ 46 ∷ 189 ∷ 243 ∷ 46 ∷ []) [] 0 [] ∷
     image (25 ∷ 0 ∷ 1 ∷ 0 ∷ 2 ∷ 0 ∷ 0 ∷ 0 ∷ 0 ∷ 1 ∷ 0 ∷ 0 ∷ 0 ∷ 0 ∷ 1 ∷ 0 ∷ 0 ∷ 0 ∷ 0 ∷ 2 ∷ 0 ∷ 0 ∷ 0 ∷ 0 ∷ 2 ∷ 0 ∷ 0 ∷ 0 ∷ 0 ∷ 6 ∷ 0 ∷ 2 ∷ 0 ∷ 193 ∷ 3 ∷ 1 ∷ 4 ∷ 2 ∷ 29 ∷ 6 ∷ 0 ∷ 3 ∷ 0 ∷ 1 ∷ 0 ∷ 1 ∷ 0 ∷ 0 ∷ 0 ∷ []) (pos 386843016 ∷ pos 1 ∷ pos 0 ∷ negsuc 2147483647 ∷ pos 1066971547 ∷ []) 108 (report 25 0 0 0 (pos 386843016 ∷ pos 1 ∷ pos 0 ∷ negsuc 2147483647 ∷ pos 1066971547 ∷ [])) ∷
     image (5 ∷ 0 ∷ 1 ∷ 0 ∷ 2 ∷ 0 ∷ 0 ∷ 0 ∷ 0 ∷ 44 ∷ 1 ∷ 2 ∷ 0 ∷ 1 ∷ 2 ∷ 0 ∷ 0 ∷ 0 ∷ 0 ∷ 2 ∷ 1 ∷ 0 ∷ 0 ∷ 0 ∷ 20 ∷ 22 ∷ 43 ∷ 1 ∷ 1 ∷ 2 ∷ 1 ∷ 0 ∷ 0 ∷ 0 ∷ 22 ∷ 43 ∷ 1 ∷ 1 ∷ 2 ∷ 1 ∷ 0 ∷ 0 ∷ 0 ∷ 22 ∷ 38 ∷ 0 ∷ 1 ∷ 3 ∷ 0 ∷ 4 ∷ 0 ∷ 1 ∷ 3 ∷ 0 ∷ 3 ∷ 0 ∷ 2 ∷ 254 ∷ 255 ∷ 255 ∷ 127 ∷ 8 ∷ 3 ∷ 0 ∷ 9 ∷ 10 ∷ 23 ∷ 251 ∷ 255 ∷ 255 ∷ 255 ∷ 250 ∷ 255 ∷ 255 ∷ 127 ∷ 24 ∷ 68 ∷ 0 ∷ 21 ∷ 1 ∷ 1 ∷ 25 ∷ 1 ∷ 3 ∷ 0 ∷ 3 ∷ 0 ∷ 8 ∷ 3 ∷ 0 ∷ 17 ∷ 2 ∷ 0 ∷ 0 ∷ 0 ∷ 0 ∷ 18 ∷ 22 ∷ 254 ∷ 0 ∷ 1 ∷ 3 ∷ 0 ∷ 2 ∷ 0 ∷ 0 ∷ 0 ∷ 0 ∷ 5 ∷ 3 ∷ 0 ∷ 10 ∷ 9 ∷ 3 ∷ 0 ∷ 11 ∷ 5 ∷ 2 ∷ 2 ∷ 0 ∷ 0 ∷ 0 ∷ 3 ∷ 0 ∷ 5 ∷ 8 ∷ 3 ∷ 0 ∷ 9 ∷ 5 ∷ 3 ∷ 0 ∷ 11 ∷ 11 ∷ 5 ∷ 3 ∷ 0 ∷ 5 ∷ 3 ∷ 0 ∷ 7 ∷ 9 ∷ 5 ∷ 5 ∷ 5 ∷ 4 ∷ 0 ∷ 1 ∷ 2 ∷ 3 ∷ 0 ∷ 0 ∷ 0 ∷ 2 ∷ 2 ∷ 0 ∷ 0 ∷ 0 ∷ 26 ∷ 0 ∷ 4 ∷ 0 ∷ 27 ∷ 0 ∷ 0 ∷ 1 ∷ 0 ∷ 0 ∷ 0 ∷ 251 ∷ 0 ∷ 1 ∷ 1 ∷ 2 ∷ 7 ∷ 0 ∷ 0 ∷ 0 ∷ 23 ∷ 0 ∷ 0 ∷ 0 ∷ 0 ∷ 0 ∷ 0 ∷ 0 ∷ 0 ∷ 24 ∷ 180 ∷ 0 ∷ 21 ∷ 203 ∷ 0 ∷ 25 ∷ 1 ∷ 2 ∷ 0 ∷ 0 ∷ 0 ∷ 0 ∷ 3 ∷ 0 ∷ 3 ∷ 0 ∷ 17 ∷ 6 ∷ 17 ∷ 22 ∷ 200 ∷ 0 ∷ 21 ∷ 181 ∷ 0 ∷ 21 ∷ 242 ∷ 0 ∷ 23 ∷ 254 ∷ 255 ∷ 255 ∷ 127 ∷ 254 ∷ 255 ∷ 255 ∷ 127 ∷ 24 ∷ 218 ∷ 0 ∷ 21 ∷ 222 ∷ 0 ∷ 25 ∷ 21 ∷ 242 ∷ 0 ∷ 23 ∷ 255 ∷ 255 ∷ 255 ∷ 255 ∷ 254 ∷ 255 ∷ 255 ∷ 127 ∷ 24 ∷ 237 ∷ 0 ∷ 21 ∷ 241 ∷ 0 ∷ 25 ∷ 21 ∷ 242 ∷ 0 ∷ 25 ∷ 28 ∷ 0 ∷ 0 ∷ 1 ∷ 0 ∷ 0 ∷ 0 ∷ 158 ∷ 0 ∷ 21 ∷ 69 ∷ 0 ∷ 21 ∷ 40 ∷ 1 ∷ 23 ∷ 106 ∷ 51 ∷ 148 ∷ 131 ∷ 107 ∷ 51 ∷ 148 ∷ 131 ∷ 24 ∷ 16 ∷ 1 ∷ 21 ∷ 20 ∷ 1 ∷ 25 ∷ 21 ∷ 40 ∷ 1 ∷ 23 ∷ 15 ∷ 0 ∷ 0 ∷ 0 ∷ 20 ∷ 0 ∷ 0 ∷ 0 ∷ 24 ∷ 35 ∷ 1 ∷ 21 ∷ 39 ∷ 1 ∷ 25 ∷ 21 ∷ 40 ∷ 1 ∷ 25 ∷ 21 ∷ 43 ∷ 1 ∷ 29 ∷ 6 ∷ 0 ∷ 3 ∷ 0 ∷ 3 ∷ 0 ∷ 255 ∷ 255 ∷ 255 ∷ 255 ∷ []) (negsuc 0 ∷ []) 25 (report 0 6 37 299 (negsuc 0 ∷ [])) ∷
     compiling (bytes "program\nK0_99ZZZ9_Z_0A_XA090X0X\t  VAR \t\u{c}i :\rBOOL;b:BOOL;rEturn:dint:=\u{c}\t\t-16#80000000;\r_1\u{c}(* x /* *)\u{c}:\tDINT:=\r-16#d ;Q0Z0_AAXA:bool \r;\reNd\t :BOOL\t(* \" \" *)(* (*)*) (* *) *):=TRuE;\t_Z\r:DiNT\t\n(* /* *):=\t\u{c}(* *)8#1; \rEnd_vAr\twHILe\r//END_PROGRAM;\u{c}\nRetUrn<>_1\t\nDo\tend_while;\u{c}(* (* *) *) END_PROGRAM") (accepted (35 ∷ 0 ∷ 1 ∷ 0 ∷ 1 ∷ 0 ∷ 0 ∷ 0 ∷ 0 ∷ 1 ∷ 0 ∷ 0 ∷ 0 ∷ 0 ∷ 2 ∷ 0 ∷ 0 ∷ 0 ∷ 128 ∷ 2 ∷ 243 ∷ 255 ∷ 255 ∷ 255 ∷ 1 ∷ 0 ∷ 0 ∷ 0 ∷ 0 ∷ 1 ∷ 1 ∷ 0 ∷ 0 ∷ 0 ∷ 2 ∷ 1 ∷ 0 ∷ 0 ∷ 0 ∷ 13 ∷ 0 ∷ 2 ∷ 0 ∷ 1 ∷ 3 ∷ 2 ∷ 3 ∷ 3 ∷ 17 ∷ 22 ∷ 12 ∷ 0 ∷ 21 ∷ 0 ∷ 0 ∷ 29 ∷ 6 ∷ 0 ∷ 3 ∷ 0 ∷ 2 ∷ 0 ∷ 255 ∷ 255 ∷ 255 ∷ 255 ∷ []) 13 2 4294967295) ∷
@@ -519,16 +522,17 @@ cases4 =
     compiling (bytes "PROGRAM P VAR A:DINT; B:DINT; C:DINT; I:DINT; X:BOOL; END_VAR\nA:=1+1*(1+1*(1+1*(1+1*(1+1*(1+1*(1+1*(1+1*(1+1*(1+1*(1+1*(1+1*(1+1*(1+1*(1+1*(1+1*(1))))))))))))))));\nEND_PROGRAM") (refused 10 65) ∷
     compiling (bytes "\u{c}program\r\r\rI\rVAR QA_90a9x_Z_xzA0aX_999aX9Ax0XXA:dInt;K00X9Z9 \t:dint:=\u{c}- 16#7FFFFFFF;END:\n//\r\u{c}DiNt:=\t\t\r-1_003871466\n(* *)(* \" *);  \t_Z0009z_xzx_9AZx_9A_0_z0x:DINT:=\u{c}-\u{c}8#1_4;\r(* (*(**)*) x *)a\u{c}\u{c}:BOOL;kz\t:dint\r\t := (* *)\r-7 ;end_vAr (* 1..5 :=  (*(**)*) *)kz:=\t\n k00x9z9*3/(\r(* ** *) (\u{c}_z0009z_xzx_9azx_9a_0_z0x-\rend));END_PROGRAM\r") (accepted (30 ∷ 0 ∷ 1 ∷ 0 ∷ 2 ∷ 0 ∷ 0 ∷ 0 ∷ 0 ∷ 2 ∷ 1 ∷ 0 ∷ 0 ∷ 128 ∷ 2 ∷ 22 ∷ 35 ∷ 42 ∷ 196 ∷ 2 ∷ 244 ∷ 255 ∷ 255 ∷ 255 ∷ 1 ∷ 0 ∷ 0 ∷ 0 ∷ 0 ∷ 2 ∷ 249 ∷ 255 ∷ 255 ∷ 255 ∷ 18 ∷ 0 ∷ 2 ∷ 0 ∷ 1 ∷ 3 ∷ 1 ∷ 2 ∷ 3 ∷ 0 ∷ 0 ∷ 0 ∷ 7 ∷ 3 ∷ 3 ∷ 3 ∷ 2 ∷ 11 ∷ 8 ∷ 4 ∷ 5 ∷ 29 ∷ 6 ∷ 0 ∷ 3 ∷ 0 ∷ 3 ∷ 0 ∷ 1 ∷ 0 ∷ 0 ∷ 0 ∷ []) 18 3 1) ∷
     image (35 ∷ 0 ∷ 1 ∷ 0 ∷ 1 ∷ 0 ∷ 0 ∷ 0 ∷ 0 ∷ 2 ∷ 1 ∷ 0 ∷ 0 ∷ 0 ∷ 1 ∷ 0 ∷ 0 ∷ 0 ∷ 0 ∷ 1 ∷ 0 ∷ 0 ∷ 0 ∷ 0 ∷ 1 ∷ 0 ∷ 0 ∷ 0 ∷ 0 ∷ 1 ∷ 0 ∷ 0 ∷ 0 ∷ 0 ∷ 2 ∷ 1 ∷ 0 ∷ 0 ∷ 0 ∷ 1 ∷ 0 ∷ 2 ∷ 0 ∷ 161 ∷ 6 ∷ 0 ∷ 3 ∷ 0 ∷ 0 ∷ 0 ∷ 0 ∷ 0 ∷ 0 ∷ 0 ∷ []) (pos 0 ∷ pos 0 ∷ pos 0 ∷ pos 0 ∷ pos 0 ∷ pos 1 ∷ pos 1 ∷ []) 0 (report 25 0 0 0 (pos 0 ∷ pos 0 ∷ pos 0 ∷ pos 0 ∷ pos 0 ∷ pos 1 ∷ pos 1 ∷ [])) ∷
+    compiling (bytes "PROGRAM P VAR V0:DINT:=0; V1:DINT:=1; V2:DINT:=2; V3:DINT:=3; V4:DINT:=4; V5:DINT:=5; V6:DINT:=6; V7:DINT:=7; V8:DINT:=8; V9:DINT:=9; V10:DINT:=10; V11:DINT:=11; V12:DINT:=12; V13:DINT:=13; V14:DINT:=14; V15:DINT:=15; V16:DINT:=16; V17:DINT:=17; V18:DINT:=18; V19:DINT:=19; V20:DINT:=20; V21:DINT:=21; V22:DINT:=22; V23:DINT:=23; V24:DINT:=24; V25:DINT:=25; V26:DINT:=26; V27:DINT:=27; V28:DINT:=28; V29:DINT:=29; V30:DINT:=30; V31:DINT:=31; V32:DINT:=32; V33:DINT:=33; V34:DINT:=34; V35:DINT:=35; V36:DINT:=36; V37:DINT:=37; V38:DINT:=38; V39:DINT:=39; V40:DINT:=40; V41:DINT:=41; V42:DINT:=42; V43:DINT:=43; V44:DINT:=44; V45:DINT:=45; V46:DINT:=46; V47:DINT:=47; V48:DINT:=48; V49:DINT:=49; V50:DINT:=50; V51:DINT:=51; V52:DINT:=52; V53:DINT:=53; V54:DINT:=54; V55:DINT:=55; V56:DINT:=56; V57:DINT:=57; V58:DINT:=58; V59:DINT:=59; V60:DINT:=60; V61:DINT:=61; V62:DINT:=62; V63:DINT:=63; V64:DINT:=64; V3:DINT; END_VAR V0:=V65; END_PROGRAM") (refused 9 890) ∷
     compiling (80 ∷ 82 ∷ 79 ∷ 71 ∷ 82 ∷ 65 ∷ 77 ∷ 32 ∷ 75 ∷ 65 ∷ 13 ∷ 86 ∷ 65 ∷ 82 ∷ 9 ∷ 81 ∷ 90 ∷ 58 ∷ 68 ∷ 73 ∷ 78 ∷ 84 ∷ 59 ∷ 73 ∷ 78 ∷ 84 ∷ 58 ∷ 66 ∷ 79 ∷ 79 ∷ 76 ∷ 59 ∷ 65 ∷ 58 ∷ 68 ∷ 73 ∷ 78 ∷ 84 ∷ 59 ∷ 69 ∷ 78 ∷ 128 ∷ 58 ∷ 66 ∷ 79 ∷ 79 ∷ 76 ∷ 59 ∷ 76 ∷ 70 ∷ 58 ∷ 66 ∷ 79 ∷ 79 ∷ 76 ∷ 59 ∷ 69 ∷ 78 ∷ 68 ∷ 95 ∷ 86 ∷ 65 ∷ 82 ∷ 32 ∷ 76 ∷ 70 ∷ 58 ∷ 61 ∷ 76 ∷ 70 ∷ 59 ∷ 82 ∷ 69 ∷ 80 ∷ 69 ∷ 65 ∷ 84 ∷ 32 ∷ 85 ∷ 78 ∷ 84 ∷ 73 ∷ 76 ∷ 32 ∷ 81 ∷ 90 ∷ 13 ∷ 77 ∷ 79 ∷ 68 ∷ 10 ∷ 65 ∷ 62 ∷ 61 ∷ 56 ∷ 35 ∷ 48 ∷ 48 ∷ 49 ∷ 49 ∷ 47 ∷ 40 ∷ 53 ∷ 43 ∷ 49 ∷ 54 ∷ 35 ∷ 55 ∷ 41 ∷ 69 ∷ 78 ∷ 68 ∷ 95 ∷ 82 ∷ 69 ∷ 80 ∷ 69 ∷ 65 ∷ 84 ∷ 69 ∷ 78 ∷ 68 ∷ 95 ∷ 80 ∷ 82 ∷ 79 ∷ 71 ∷ 82 ∷ 65 ∷ 77 ∷ []) (refused 2 41) ∷
     filling (5 ∷ 0 ∷ 1 ∷ 0 ∷ 2 ∷ 0 ∷ 0 ∷ 0 ∷ 0 ∷ 36 ∷ 2 ∷ 2 ∷ 0 ∷ 1 ∷ 2 ∷ 5 ∷ 0 ∷ 0 ∷ 0 ∷ 23 ∷ 0 ∷ 0 ∷ 0 ∷ 0 ∷ 0 ∷ 0 ∷ 0 ∷ 0 ∷ 24 ∷ 21 ∷ 0 ∷ 21 ∷ 125 ∷ 0 ∷ 25 ∷ 1 ∷ 3 ∷ 0 ∷ 2 ∷ 1 ∷ 0 ∷ 0 ∷ 0 ∷ 10 ∷ 4 ∷ 0 ∷ 1 ∷ 3 ∷ 0 ∷ 5 ∷ 3 ∷ 0 ∷ 9 ∷ 23 ∷ 255 ∷ 255 ∷ 255 ∷ 255 ∷ 254 ∷ 255 ∷ 255 ∷ 127 ∷ 24 ∷ 55 ∷ 0 ∷ 21 ∷ 64 ∷ 0 ∷ 25 ∷ 1 ∷ 3 ∷ 0 ∷ 4 ∷ 0 ∷ 21 ∷ 122 ∷ 0 ∷ 23 ∷ 231 ∷ 129 ∷ 159 ∷ 107 ∷ 231 ∷ 129 ∷ 159 ∷ 107 ∷ 24 ∷ 79 ∷ 0 ∷ 21 ∷ 121 ∷ 0 ∷ 25 ∷ 1 ∷ 3 ∷ 0 ∷ 4 ∷ 0 ∷ 1 ∷ 3 ∷ 0 ∷ 2 ∷ 2 ∷ 0 ∷ 0 ∷ 0 ∷ 10 ∷ 4 ∷ 0 ∷ 1 ∷ 3 ∷ 0 ∷ 2 ∷ 2 ∷ 0 ∷ 0 ∷ 0 ∷ 10 ∷ 4 ∷ 0 ∷ 1 ∷ 3 ∷ 0 ∷ 2 ∷ 2 ∷ 0 ∷ 0 ∷ 0 ∷ 7 ∷ 4 ∷ 0 ∷ 21 ∷ 122 ∷ 0 ∷ 25 ∷ 126 ∷ 131 ∷ 0 ∷ 25 ∷ 1 ∷ 3 ∷ 0 ∷ 4 ∷ 0 ∷ 1 ∷ 3 ∷ 0 ∷ 3 ∷ 0 ∷ 5 ∷ 7 ∷ 2 ∷ 0 ∷ 0 ∷ 0 ∷ 0 ∷ 8 ∷ 4 ∷ 0 ∷ 1 ∷ 2 ∷ 0 ∷ 0 ∷ 0 ∷ 0 ∷ 3 ∷ 0 ∷ 2 ∷ 11 ∷ 0 ∷ 0 ∷ 0 ∷ 7 ∷ 8 ∷ 3 ∷ 0 ∷ 2 ∷ 3 ∷ 0 ∷ 0 ∷ 0 ∷ 8 ∷ 7 ∷ 4 ∷ 0 ∷ 1 ∷ 3 ∷ 0 ∷ 4 ∷ 0 ∷ 1 ∷ 3 ∷ 0 ∷ 2 ∷ 5 ∷ 181 ∷ 0 ∷ 0 ∷ 2 ∷ 3 ∷ 0 ∷ 0 ∷ 0 ∷ 9 ∷ 13 ∷ 2 ∷ 1 ∷ 0 ∷ 0 ∷ 0 ∷ 6 ∷ 17 ∷ 22 ∷ 35 ∷ 2 ∷ 1 ∷ 2 ∷ 8 ∷ 0 ∷ 0 ∷ 0 ∷ 2 ∷ 3 ∷ 0 ∷ 0 ∷ 0 ∷ 7 ∷ 23 ∷ 255 ∷ 255 ∷ 255 ∷ 255 ∷ 255 ∷ 255 ∷ 255 ∷ 255 ∷ 24 ∷ 241 ∷ 0 ∷ 23 ∷ 1 ∷ 0 ∷ 0 ∷ 0 ∷ 6 ∷ 0 ∷ 0 ∷ 0 ∷ 24 ∷ 241 ∷ 0 ∷ 21 ∷ 245 ∷ 0 ∷ 25 ∷ 21 ∷ 32 ∷ 2 ∷ 23 ∷ 190 ∷ 98 ∷ 171 ∷ 244 ∷ 191 ∷ 98 ∷ 171 ∷ 244 ∷ 24 ∷ 4 ∷ 1 ∷ 21 ∷ 31 ∷ 2 ∷ 25 ∷ 1 ∷ 1 ∷ 3 ∷ 0 ∷ 2 ∷ 2 ∷ 0 ∷ 0 ∷ 0 ∷ 7 ∷ 4 ∷ 0 ∷ 1 ∷ 2 ∷ 0 ∷ 0 ∷ 0 ∷ 0 ∷ 2 ∷ 0 ∷ 0 ∷ 1 ∷ 0 ∷ 3 ∷ 0 ∷ 2 ∷ 3 ∷ 0 ∷ 0 ∷ 0 ∷ 8 ∷ 7 ∷ 5 ∷ 8 ∷ 5 ∷ 3 ∷ 0 ∷ 3 ∷ 0 ∷ 3 ∷ 0 ∷ 7 ∷ 8 ∷ 2 ∷ 255 ∷ 255 ∷ 255 ∷ 127 ∷ 11 ∷ 9 ∷ 3 ∷ 0 ∷ 5 ∷ 9 ∷ 3 ∷ 0 ∷ 5 ∷ 2 ∷ 11 ∷ 0 ∷ 0 ∷ 0 ∷ 9 ∷ 2 ∷ 3 ∷ 0 ∷ 0 ∷ 0 ∷ 11 ∷ 17 ∷ 22 ∷ 95 ∷ 1 ∷ 1 ∷ 2 ∷ 1 ∷ 0 ∷ 0 ∷ 0 ∷ 22 ∷ 95 ∷ 1 ∷ 1 ∷ 3 ∷ 0 ∷ 4 ∷ 0 ∷ 21 ∷ 78 ∷ 1 ∷ 1 ∷ 2 ∷ 7 ∷ 0 ∷ 0 ∷ 0 ∷ 23 ∷ 0 ∷ 0 ∷ 0 ∷ 0 ∷ 0 ∷ 0 ∷ 0 ∷ 0 ∷ 24 ∷ 116 ∷ 1 ∷ 21 ∷ 136 ∷ 1 ∷ 25 ∷ 1 ∷ 3 ∷ 0 ∷ 4 ∷ 0 ∷ 1 ∷ 2 ∷ 5 ∷ 0 ∷ 0 ∷ 0 ∷ 3 ∷ 0 ∷ 7 ∷ 4 ∷ 0 ∷ 21 ∷ 172 ∷ 1 ∷ 23 ∷ 244 ∷ 255 ∷ 255 ∷ 255 ∷ 244 ∷ 255 ∷ 255 ∷ 255 ∷ 24 ∷ 151 ∷ 1 ∷ 21 ∷ 171 ∷ 1 ∷ 25 ∷ 1 ∷ 21 ∷ 28 ∷ 2 ∷ 1 ∷ 21 ∷ 28 ∷ 2 ∷ 1 ∷ 21 ∷ 28 ∷ 2 ∷ 1 ∷ 21 ∷ 28 ∷ 2 ∷ 21 ∷ 172 ∷ 1 ∷ 25 ∷ 1 ∷ 2 ∷ 4 ∷ 0 ∷ 0 ∷ 0 ∷ 3 ∷ 0 ∷ 9 ∷ 2 ∷ 11 ∷ 0 ∷ 0 ∷ 0 ∷ 8 ∷ 3 ∷ 0 ∷ 8 ∷ 23 ∷ 255 ∷ 255 ∷ 255 ∷ 255 ∷ 255 ∷ 255 ∷ 255 ∷ 255 ∷ 24 ∷ 217 ∷ 1 ∷ 23 ∷ 1 ∷ 0 ∷ 0 ∷ 0 ∷ 255 ∷ 255 ∷ 255 ∷ 127 ∷ 24 ∷ 217 ∷ 1 ∷ 21 ∷ 0 ∷ 2 ∷ 25 ∷ 1 ∷ 2 ∷ 1 ∷ 0 ∷ 0 ∷ 0 ∷ 5 ∷ 2 ∷ 6 ∷ 0 ∷ 0 ∷ 0 ∷ 26 ∷ 0 ∷ 4 ∷ 0 ∷ 27 ∷ 0 ∷ 0 ∷ 1 ∷ 0 ∷ 0 ∷ 0 ∷ 253 ∷ 1 ∷ 1 ∷ 28 ∷ 0 ∷ 0 ∷ 1 ∷ 0 ∷ 0 ∷ 0 ∷ 243 ∷ 1 ∷ 21 ∷ 20 ∷ 2 ∷ 23 ∷ 209 ∷ 114 ∷ 49 ∷ 96 ∷ 209 ∷ 114 ∷ 49 ∷ 96 ∷ 24 ∷ 15 ∷ 2 ∷ 21 ∷ 19 ∷ 2 ∷ 25 ∷ 21 ∷ 20 ∷ 2 ∷ 25 ∷ 2 ∷ 0 ∷ 0 ∷ 0 ∷ 0 ∷ 22 ∷ 5 ∷ 1 ∷ 21 ∷ 32 ∷ 2 ∷ 25 ∷ 21 ∷ 177 ∷ 0 ∷ 29 ∷ 6 ∷ 0 ∷ 3 ∷ 0 ∷ 4 ∷ 0 ∷ 255 ∷ 255 ∷ 255 ∷ 255 ∷ []) (pos 0 ∷ pos 0 ∷ []) 24 (pos 0 ∷ pos 0 ∷ []) ∷
-    compiling (bytes "PROGRAM _ZZ9ZA99_X\tVAR\tRETURN:DINT:=\u{c}-16#007fffffff;_1:DINT;Q0_9Z_0A90:DINT;QAXZXX_AA9XX9_00_AZAX0AAZX:BOOL;END_VAR QAXZXX_AA9XX9_00_AZAX0AAZX:=(16#2)<=8#0;;FOR\rRETURN:=(Q0_9Z_0A90)TO\r16#3 DO\tWHILE RETURN>16#008\nDO\nCASE\u{c}_1\rOF-2#0010000000000000000000000000000000:2#0:Q0_9Z_0A90:=8-RETURN;FOR\r_1:=16#6\tTO(RETURN)DO;CASE-_1\rOF-1_1..\r-11:\u{c}-16#1,2#11111111111111_1111_1111111111111..2147483647:;;EXIT;ELSE\u{c}END_CASE;END_FOR;8#17_777777776:ELSE\nEND_CASE;END_WHILE;END_FOR;END_PROGRAM") (accepted (20 ∷ 0 ∷ 1 ∷ 0 ∷ 2 ∷ 1 ∷ 0 ∷ 0 ∷ 128 ∷ 2 ∷ 0 ∷ 0 ∷ 0 ∷ 0 ∷ 2 ∷ 0 ∷ 0 ∷ 0 ∷ 0 ∷ 1 ∷ 0 ∷ 0 ∷ 0 ∷ 0 ∷ 223 ∷ 0 ∷ 2 ∷ 0 ∷ 1 ∷ 2 ∷ 2 ∷ 0 ∷ 0 ∷ 0 ∷ 2 ∷ 0 ∷ 0 ∷ 0 ∷ 0 ∷ 14 ∷ 4 ∷ 3 ∷ 1 ∷ 3 ∷ 2 ∷ 2 ∷ 3 ∷ 0 ∷ 0 ∷ 0 ∷ 26 ∷ 0 ∷ 4 ∷ 0 ∷ 27 ∷ 0 ∷ 0 ∷ 1 ∷ 0 ∷ 0 ∷ 0 ∷ 222 ∷ 0 ∷ 1 ∷ 1 ∷ 3 ∷ 0 ∷ 2 ∷ 8 ∷ 0 ∷ 0 ∷ 0 ∷ 13 ∷ 22 ∷ 213 ∷ 0 ∷ 1 ∷ 3 ∷ 1 ∷ 23 ∷ 0 ∷ 0 ∷ 0 ∷ 128 ∷ 0 ∷ 0 ∷ 0 ∷ 128 ∷ 24 ∷ 66 ∷ 0 ∷ 21 ∷ 70 ∷ 0 ∷ 25 ∷ 21 ∷ 210 ∷ 0 ∷ 23 ∷ 0 ∷ 0 ∷ 0 ∷ 0 ∷ 0 ∷ 0 ∷ 0 ∷ 0 ∷ 24 ∷ 85 ∷ 0 ∷ 21 ∷ 190 ∷ 0 ∷ 25 ∷ 1 ∷ 2 ∷ 8 ∷ 0 ∷ 0 ∷ 0 ∷ 3 ∷ 0 ∷ 11 ∷ 4 ∷ 2 ∷ 1 ∷ 2 ∷ 6 ∷ 0 ∷ 0 ∷ 0 ∷ 3 ∷ 0 ∷ 26 ∷ 1 ∷ 4 ∷ 1 ∷ 27 ∷ 1 ∷ 1 ∷ 1 ∷ 0 ∷ 0 ∷ 0 ∷ 187 ∷ 0 ∷ 1 ∷ 1 ∷ 3 ∷ 1 ∷ 5 ∷ 23 ∷ 245 ∷ 255 ∷ 255 ∷ 255 ∷ 245 ∷ 255 ∷ 255 ∷ 255 ∷ 24 ∷ 138 ∷ 0 ∷ 21 ∷ 142 ∷ 0 ∷ 25 ∷ 21 ∷ 178 ∷ 0 ∷ 23 ∷ 255 ∷ 255 ∷ 255 ∷ 255 ∷ 255 ∷ 255 ∷ 255 ∷ 255 ∷ 24 ∷ 169 ∷ 0 ∷ 23 ∷ 255 ∷ 255 ∷ 255 ∷ 127 ∷ 255 ∷ 255 ∷ 255 ∷ 127 ∷ 24 ∷ 169 ∷ 0 ∷ 21 ∷ 177 ∷ 0 ∷ 25 ∷ 1 ∷ 21 ∷ 187 ∷ 0 ∷ 21 ∷ 178 ∷ 0 ∷ 25 ∷ 28 ∷ 1 ∷ 1 ∷ 1 ∷ 0 ∷ 0 ∷ 0 ∷ 118 ∷ 0 ∷ 21 ∷ 210 ∷ 0 ∷ 23 ∷ 254 ∷ 255 ∷ 255 ∷ 127 ∷ 254 ∷ 255 ∷ 255 ∷ 127 ∷ 24 ∷ 205 ∷ 0 ∷ 21 ∷ 209 ∷ 0 ∷ 25 ∷ 21 ∷ 210 ∷ 0 ∷ 25 ∷ 21 ∷ 36 ∷ 0 ∷ 28 ∷ 0 ∷ 0 ∷ 1 ∷ 0 ∷ 0 ∷ 0 ∷ 35 ∷ 0 ∷ 29 ∷ 6 ∷ 0 ∷ 3 ∷ 0 ∷ 2 ∷ 0 ∷ 255 ∷ 255 ∷ 255 ∷ 255 ∷ []) 223 2 4294967295) ∷
-    meaningAt 48 (bytes "\nprogram\u{c}B\r\n\rVAR \u{c}\tk0z99az0z0x00x: \tDINT;\u{c}\t\nInT\u{c}//END_PROGRAM;\u{c}:dint\t\u{c};B:DINT; (* *)\rEnD_vAR\t//END_PROGRAM;\u{c}\tIf  false\nthEn\u{c}\u{c}(* \" (* *) *)cAsE\u{c}\rb\n OF-\n\u{c}2147483647..\n\n-16#007FFFFF_FE, \u{c}\n+ \r 16#0:\t\r;for\n(*  //  x *)\nINT:=2#1_01\r\u{c}\nTO\u{c}00_3\r\u{c} by\r 16#1\r\rDO;;K0Z99AZ0Z0X00X\t:= \tk0z99az0z0x00x\u{c}+\n\r\n1\t;\t\tfor (* *)K0Z99AZ0Z0X00X:=16#3\t\n\u{c}TO \n//\u{c}16#005\tBy-2#10 DO\n\u{c}END_FOR\t;eNd_For;5,+\t\u{c} 18  :\u{c}END_CASE;ELSE\rEND_IF  ;end_program\t") (pos 0 ∷ pos 4 ∷ negsuc 0 ∷ []) 0 1 (pos 0 ∷ pos 4 ∷ negsuc 0 ∷ []) ∷
-    meaningAt 20 (bytes "PROGRAM\tA\rVAR\u{c}K0_A_0AZ0A_X0_9:BOOL:=FALSE;B:BOOL;RETURN:DINT:=\n-2#1;LF:DINT;END_VAR\rEND_PROGRAM") (pos 0 ∷ pos 1 ∷ pos 549351044 ∷ negsuc 15 ∷ []) 0 0 (pos 0 ∷ pos 1 ∷ pos 549351044 ∷ negsuc 15 ∷ []) ∷
-    compiling (bytes "\u{c}\n\rprogram (*  //  /* *)RETURN \u{c}VAR\u{c}\n\rint:dint\u{c}\n\t;_1\r\n:\u{c}\n\u{c}boOL;I:DINT\n;  end_var\u{c}(* \" (*)*) *)\tEnd_pROgRaM") (accepted (15 ∷ 0 ∷ 1 ∷ 0 ∷ 2 ∷ 0 ∷ 0 ∷ 0 ∷ 0 ∷ 1 ∷ 0 ∷ 0 ∷ 0 ∷ 0 ∷ 2 ∷ 0 ∷ 0 ∷ 0 ∷ 0 ∷ 1 ∷ 0 ∷ 2 ∷ 0 ∷ 29 ∷ 6 ∷ 0 ∷ 3 ∷ 0 ∷ 0 ∷ 0 ∷ 0 ∷ 0 ∷ 0 ∷ 0 ∷ []) 1 0 0) ∷
     []
 
 cases5 : List Case
 cases5 =
+    compiling (bytes "PROGRAM _ZZ9ZA99_X\tVAR\tRETURN:DINT:=\u{c}-16#007fffffff;_1:DINT;Q0_9Z_0A90:DINT;QAXZXX_AA9XX9_00_AZAX0AAZX:BOOL;END_VAR QAXZXX_AA9XX9_00_AZAX0AAZX:=(16#2)<=8#0;;FOR\rRETURN:=(Q0_9Z_0A90)TO\r16#3 DO\tWHILE RETURN>16#008\nDO\nCASE\u{c}_1\rOF-2#0010000000000000000000000000000000:2#0:Q0_9Z_0A90:=8-RETURN;FOR\r_1:=16#6\tTO(RETURN)DO;CASE-_1\rOF-1_1..\r-11:\u{c}-16#1,2#11111111111111_1111_1111111111111..2147483647:;;EXIT;ELSE\u{c}END_CASE;END_FOR;8#17_777777776:ELSE\nEND_CASE;END_WHILE;END_FOR;END_PROGRAM") (accepted (20 ∷ 0 ∷ 1 ∷ 0 ∷ 2 ∷ 1 ∷ 0 ∷ 0 ∷ 128 ∷ 2 ∷ 0 ∷ 0 ∷ 0 ∷ 0 ∷ 2 ∷ 0 ∷ 0 ∷ 0 ∷ 0 ∷ 1 ∷ 0 ∷ 0 ∷ 0 ∷ 0 ∷ 223 ∷ 0 ∷ 2 ∷ 0 ∷ 1 ∷ 2 ∷ 2 ∷ 0 ∷ 0 ∷ 0 ∷ 2 ∷ 0 ∷ 0 ∷ 0 ∷ 0 ∷ 14 ∷ 4 ∷ 3 ∷ 1 ∷ 3 ∷ 2 ∷ 2 ∷ 3 ∷ 0 ∷ 0 ∷ 0 ∷ 26 ∷ 0 ∷ 4 ∷ 0 ∷ 27 ∷ 0 ∷ 0 ∷ 1 ∷ 0 ∷ 0 ∷ 0 ∷ 222 ∷ 0 ∷ 1 ∷ 1 ∷ 3 ∷ 0 ∷ 2 ∷ 8 ∷ 0 ∷ 0 ∷ 0 ∷ 13 ∷ 22 ∷ 213 ∷ 0 ∷ 1 ∷ 3 ∷ 1 ∷ 23 ∷ 0 ∷ 0 ∷ 0 ∷ 128 ∷ 0 ∷ 0 ∷ 0 ∷ 128 ∷ 24 ∷ 66 ∷ 0 ∷ 21 ∷ 70 ∷ 0 ∷ 25 ∷ 21 ∷ 210 ∷ 0 ∷ 23 ∷ 0 ∷ 0 ∷ 0 ∷ 0 ∷ 0 ∷ 0 ∷ 0 ∷ 0 ∷ 24 ∷ 85 ∷ 0 ∷ 21 ∷ 190 ∷ 0 ∷ 25 ∷ 1 ∷ 2 ∷ 8 ∷ 0 ∷ 0 ∷ 0 ∷ 3 ∷ 0 ∷ 11 ∷ 4 ∷ 2 ∷ 1 ∷ 2 ∷ 6 ∷ 0 ∷ 0 ∷ 0 ∷ 3 ∷ 0 ∷ 26 ∷ 1 ∷ 4 ∷ 1 ∷ 27 ∷ 1 ∷ 1 ∷ 1 ∷ 0 ∷ 0 ∷ 0 ∷ 187 ∷ 0 ∷ 1 ∷ 1 ∷ 3 ∷ 1 ∷ 5 ∷ 23 ∷ 245 ∷ 255 ∷ 255 ∷ 255 ∷ 245 ∷ 255 ∷ 255 ∷ 255 ∷ 24 ∷ 138 ∷ 0 ∷ 21 ∷ 142 ∷ 0 ∷ 25 ∷ 21 ∷ 178 ∷ 0 ∷ 23 ∷ 255 ∷ 255 ∷ 255 ∷ 255 ∷ 255 ∷ 255 ∷ 255 ∷ 255 ∷ 24 ∷ 169 ∷ 0 ∷ 23 ∷ 255 ∷ 255 ∷ 255 ∷ 127 ∷ 255 ∷ 255 ∷ 255 ∷ 127 ∷ 24 ∷ 169 ∷ 0 ∷ 21 ∷ 177 ∷ 0 ∷ 25 ∷ 1 ∷ 21 ∷ 187 ∷ 0 ∷ 21 ∷ 178 ∷ 0 ∷ 25 ∷ 28 ∷ 1 ∷ 1 ∷ 1 ∷ 0 ∷ 0 ∷ 0 ∷ 118 ∷ 0 ∷ 21 ∷ 210 ∷ 0 ∷ 23 ∷ 254 ∷ 255 ∷ 255 ∷ 127 ∷ 254 ∷ 255 ∷ 255 ∷ 127 ∷ 24 ∷ 205 ∷ 0 ∷ 21 ∷ 209 ∷ 0 ∷ 25 ∷ 21 ∷ 210 ∷ 0 ∷ 25 ∷ 21 ∷ 36 ∷ 0 ∷ 28 ∷ 0 ∷ 0 ∷ 1 ∷ 0 ∷ 0 ∷ 0 ∷ 35 ∷ 0 ∷ 29 ∷ 6 ∷ 0 ∷ 3 ∷ 0 ∷ 2 ∷ 0 ∷ 255 ∷ 255 ∷ 255 ∷ 255 ∷ []) 223 2 4294967295) ∷
+    meaningAt 48 (bytes "\nprogram\u{c}B\r\n\rVAR \u{c}\tk0z99az0z0x00x: \tDINT;\u{c}\t\nInT\u{c}//END_PROGRAM;\u{c}:dint\t\u{c};B:DINT; (* *)\rEnD_vAR\t//END_PROGRAM;\u{c}\tIf  false\nthEn\u{c}\u{c}(* \" (* *) *)cAsE\u{c}\rb\n OF-\n\u{c}2147483647..\n\n-16#007FFFFF_FE, \u{c}\n+ \r 16#0:\t\r;for\n(*  //  x *)\nINT:=2#1_01\r\u{c}\nTO\u{c}00_3\r\u{c} by\r 16#1\r\rDO;;K0Z99AZ0Z0X00X\t:= \tk0z99az0z0x00x\u{c}+\n\r\n1\t;\t\tfor (* *)K0Z99AZ0Z0X00X:=16#3\t\n\u{c}TO \n//\u{c}16#005\tBy-2#10 DO\n\u{c}END_FOR\t;eNd_For;5,+\t\u{c} 18  :\u{c}END_CASE;ELSE\rEND_IF  ;end_program\t") (pos 0 ∷ pos 4 ∷ negsuc 0 ∷ []) 0 1 (pos 0 ∷ pos 4 ∷ negsuc 0 ∷ []) ∷
+    meaningAt 20 (bytes "PROGRAM\tA\rVAR\u{c}K0_A_0AZ0A_X0_9:BOOL:=FALSE;B:BOOL;RETURN:DINT:=\n-2#1;LF:DINT;END_VAR\rEND_PROGRAM") (pos 0 ∷ pos 1 ∷ pos 549351044 ∷ negsuc 15 ∷ []) 0 0 (pos 0 ∷ pos 1 ∷ pos 549351044 ∷ negsuc 15 ∷ []) ∷
+    compiling (bytes "\u{c}\n\rprogram (*  //  /* *)RETURN \u{c}VAR\u{c}\n\rint:dint\u{c}\n\t;_1\r\n:\u{c}\n\u{c}boOL;I:DINT\n;  end_var\u{c}(* \" (*)*) *)\tEnd_pROgRaM") (accepted (15 ∷ 0 ∷ 1 ∷ 0 ∷ 2 ∷ 0 ∷ 0 ∷ 0 ∷ 0 ∷ 1 ∷ 0 ∷ 0 ∷ 0 ∷ 0 ∷ 2 ∷ 0 ∷ 0 ∷ 0 ∷ 0 ∷ 1 ∷ 0 ∷ 2 ∷ 0 ∷ 29 ∷ 6 ∷ 0 ∷ 3 ∷ 0 ∷ 0 ∷ 0 ∷ 0 ∷ 0 ∷ 0 ∷ 0 ∷ []) 1 0 0) ∷
     compiling (bytes "PROGRAM\tA\u{c}VAR _1:DINT;UNKNOWN_NAME:DINT;KZA_X_9AZ_ZX99_999Z_X0999A9:DINT;END_VAR;WHILE\rTRUE AND\rNOT(FALSE)DO;END_WHILE;;IF\u{c}KZA_X_9AZ_ZX99_999Z_X0999A9*KZA_X_9AZ_ZX99_999Z_X0999A9*(KZA_X_9AZ_ZX99_999Z_X0999A9\rMOD\t16#1)/(END/_1*(END/_1)MOD(END+END))<_1+\r+(_1 MOD\u{c}KZA_X_9AZ_ZX99_999Z_X0999A9)=TRUE\rTHEN\nELSIF\n8<KZA_X_9AZ_ZX99_999Z_X0999A9\u{c}THEN\rKZA_X_9AZ_ZX99_999Z_X0999A9:=(END\tMOD\u{c}0);;EXIT;;WHILE\nTRUE\rDO\tEND_WHILE;EXIT;EXIT;ELSE\u{c}END_IF;02#1\u{c}END_PROGRAM\r\t") (refused 4 435) ∷
     compiling (bytes "PROGRAM\rLF\u{c}VAR\u{c}K_ZAZZ0A0A9_ZZ99_9ZA_0_AAZXZ:DINT;I:DINT:=2#101;LF:BOOL:=TRUE;INT:DINT;B:DINT:=1;END:DINT:=\u{c}-2#001;END_VAR\u{c}INT:=INT+2;FOR\rI:=0_05\nTO(INT)BY+0_03\nDO;LF:=LF;CASE\n16#b\tOF-2064394863:\n-8#5..2147_483642: -16#10:ELSE;END_CASE;;END_FOR;END_PROGRAM") (accepted (30 ∷ 0 ∷ 1 ∷ 0 ∷ 2 ∷ 0 ∷ 0 ∷ 0 ∷ 0 ∷ 2 ∷ 5 ∷ 0 ∷ 0 ∷ 0 ∷ 1 ∷ 1 ∷ 0 ∷ 0 ∷ 0 ∷ 2 ∷ 0 ∷ 0 ∷ 0 ∷ 0 ∷ 2 ∷ 1 ∷ 0 ∷ 0 ∷ 0 ∷ 2 ∷ 255 ∷ 255 ∷ 255 ∷ 255 ∷ 112 ∷ 0 ∷ 2 ∷ 0 ∷ 1 ∷ 3 ∷ 3 ∷ 2 ∷ 2 ∷ 0 ∷ 0 ∷ 0 ∷ 10 ∷ 4 ∷ 3 ∷ 1 ∷ 2 ∷ 5 ∷ 0 ∷ 0 ∷ 0 ∷ 3 ∷ 3 ∷ 26 ∷ 0 ∷ 4 ∷ 1 ∷ 27 ∷ 0 ∷ 1 ∷ 3 ∷ 0 ∷ 0 ∷ 0 ∷ 111 ∷ 0 ∷ 1 ∷ 1 ∷ 3 ∷ 2 ∷ 4 ∷ 2 ∷ 1 ∷ 2 ∷ 11 ∷ 0 ∷ 0 ∷ 0 ∷ 23 ∷ 145 ∷ 213 ∷ 243 ∷ 132 ∷ 145 ∷ 213 ∷ 243 ∷ 132 ∷ 24 ∷ 59 ∷ 0 ∷ 21 ∷ 63 ∷ 0 ∷ 25 ∷ 21 ∷ 102 ∷ 0 ∷ 23 ∷ 251 ∷ 255 ∷ 255 ∷ 255 ∷ 250 ∷ 255 ∷ 255 ∷ 127 ∷ 24 ∷ 78 ∷ 0 ∷ 21 ∷ 82 ∷ 0 ∷ 25 ∷ 21 ∷ 102 ∷ 0 ∷ 23 ∷ 240 ∷ 255 ∷ 255 ∷ 255 ∷ 240 ∷ 255 ∷ 255 ∷ 255 ∷ 24 ∷ 97 ∷ 0 ∷ 21 ∷ 101 ∷ 0 ∷ 25 ∷ 21 ∷ 102 ∷ 0 ∷ 25 ∷ 28 ∷ 0 ∷ 1 ∷ 3 ∷ 0 ∷ 0 ∷ 0 ∷ 32 ∷ 0 ∷ 29 ∷ 6 ∷ 0 ∷ 3 ∷ 0 ∷ 2 ∷ 0 ∷ 255 ∷ 255 ∷ 255 ∷ 255 ∷ []) 112 2 4294967295) ∷
     compiling (bytes " PROGRAM LF VAR KX0_XZ9XZ_Z_99ZXA990 : BOOL ; A : BOOL ; END : BOOL ; QA_X99XZA9A_Z90000_AZA0_0 : DINT ; _Z_XZ9XA90_0_X_Z_9XZA_9X9A_9A0 : DINT := 19 ; I : DINT ; KZ90_0000_0A0AX90A0XA_0AAA0_9AZ : DINT ; END_VAR QA_X99XZA9A_Z90000_AZA0_0 := KZ90_0000_0A0AX90A0XA_0AAA0_9AZ + 2147483648 ; END_PROGRAM\r (* *)") (refused 4 274) ∷
@@ -625,14 +629,14 @@ cases5 =
     image (35 ∷ 0 ∷ 1 ∷ 0 ∷ 2 ∷ 0 ∷ 0 ∷ 0 ∷ 0 ∷ 2 ∷ 0 ∷ 0 ∷ 0 ∷ 0 ∷ 3 ∷ 1 ∷ 0 ∷ 0 ∷ 0 ∷ 2 ∷ 7 ∷ 0 ∷ 0 ∷ 0 ∷ 2 ∷ 0 ∷ 0 ∷ 0 ∷ 0 ∷ 1 ∷ 1 ∷ 0 ∷ 0 ∷ 0 ∷ 2 ∷ 0 ∷ 0 ∷ 0 ∷ 0 ∷ 6 ∷ 0 ∷ 2 ∷ 0 ∷ 1 ∷ 3 ∷ 0 ∷ 4 ∷ 2 ∷ 29 ∷ 6 ∷ 0 ∷ 3 ∷ 0 ∷ 1 ∷ 0 ∷ 1 ∷ 0 ∷ 0 ∷ 0 ∷ []) [] 0 (report 23 0 0 0 []) ∷
     compilingIn (bytes "PROGRAM P VAR A:DINT; B:DINT; C:DINT; I:DINT; X:BOOL; END_VAR\nA:=1+(((((((((((((((((Z)))))))))))))))))*(((((((((((((((((Z)))))))))))))))));\nEND_PROGRAM") 8530 (refused 10 83) ∷
     image (15 ∷ 0 ∷ 1 ∷ 0 ∷ 2 ∷ 2 ∷ 0 ∷ 0 ∷ 0 ∷ 2 ∷ 172 ∷ 106 ∷ 90 ∷ 159 ∷ 2 ∷ 9 ∷ 0 ∷ 0 ∷ 0 ∷ 41 ∷ 0 ∷ 2 ∷ 0 ∷ 2 ∷ 1 ∷ 0 ∷ 0 ∷ 128 ∷ 14 ∷ 8 ∷ 28 ∷ 5 ∷ 1 ∷ 241 ∷ 239 ∷ 17 ∷ 247 ∷ 26 ∷ 0 ∷ 4 ∷ 2 ∷ 21 ∷ 35 ∷ 0 ∷ 1 ∷ 1 ∷ 4 ∷ 1 ∷ 15 ∷ 29 ∷ 21 ∷ 0 ∷ 0 ∷ 5 ∷ 1 ∷ 16 ∷ 20 ∷ 8 ∷ 1 ∷ 14 ∷ 6 ∷ 25 ∷ 4 ∷ 0 ∷ 6 ∷ 0 ∷ 3 ∷ 0 ∷ 7 ∷ 0 ∷ 70 ∷ 204 ∷ 242 ∷ 200 ∷ []) (pos 0 ∷ pos 1 ∷ pos 19 ∷ []) 5 (report 25 0 1 5 (pos 0 ∷ pos 1 ∷ pos 19 ∷ [])) ∷
-    meaningAt 11 (bytes "PROGRAM P VAR A:DINT; B:DINT; C:DINT; I:DINT; X:BOOL; END_VAR\nFOR I:=((((((((((((((((-A)))))))))))))))) TO ((((((((((((((((-A)))))))))))))))) DO END_FOR;\nEND_PROGRAM") (pos 19 ∷ negsuc 6 ∷ negsuc 0 ∷ pos 554837999 ∷ pos 1 ∷ []) 0 2 (pos 19 ∷ negsuc 6 ∷ negsuc 0 ∷ negsuc 18 ∷ pos 1 ∷ []) ∷
-    meaningAt 14 (bytes "program\nq99z_9_a099a_z_aza9_9z\n\nvar\u{c} end:boOL:=true;\r\u{c}b:\n\t(* *)diNt\t\u{c};INT\u{c}:\n\ndINt\r :=\r\t\r-135896265;LF\r\r:DINT\n///*/*\n;_1\u{c}\t(* *):dint\t\t;a:bool\r(* \" *):= (* /* *)\nfalse; \r\r_zZZ09xAxax_99aX0xX9aazx900xA:bool\n\t///*//\u{c};end_var (* (*(**)*)  //  *)END_PROGRAM") (pos 0 ∷ pos 0 ∷ negsuc 0 ∷ negsuc 12 ∷ pos 1 ∷ pos 0 ∷ []) 24 0 (pos 0 ∷ pos 0 ∷ negsuc 0 ∷ negsuc 12 ∷ pos 1 ∷ pos 0 ∷ []) ∷
-    filling (20 ∷ 0 ∷ 1 ∷ 0 ∷ 2 ∷ 0 ∷ 0 ∷ 0 ∷ 0 ∷ 1 ∷ 0 ∷ 0 ∷ 0 ∷ 0 ∷ 2 ∷ 0 ∷ 0 ∷ 0 ∷ 0 ∷ 2 ∷ 0 ∷ 0 ∷ 0 ∷ 0 ∷ 84 ∷ 0 ∷ 2 ∷ 0 ∷ 1 ∷ 3 ∷ 0 ∷ 2 ∷ 2 ∷ 0 ∷ 0 ∷ 0 ∷ 10 ∷ 4 ∷ 0 ∷ 1 ∷ 3 ∷ 2 ∷ 2 ∷ 8 ∷ 0 ∷ 0 ∷ 0 ∷ 8 ∷ 3 ∷ 0 ∷ 3 ∷ 0 ∷ 9 ∷ 3 ∷ 2 ∷ 2 ∷ 7 ∷ 0 ∷ 0 ∷ 0 ∷ 8 ∷ 5 ∷ 9 ∷ 9 ∷ 4 ∷ 3 ∷ 1 ∷ 3 ∷ 1 ∷ 4 ∷ 1 ∷ 1 ∷ 3 ∷ 1 ∷ 4 ∷ 1 ∷ 1 ∷ 2 ∷ 3 ∷ 0 ∷ 0 ∷ 0 ∷ 2 ∷ 255 ∷ 255 ∷ 255 ∷ 127 ∷ 5 ∷ 26 ∷ 0 ∷ 4 ∷ 0 ∷ 27 ∷ 0 ∷ 0 ∷ 255 ∷ 255 ∷ 255 ∷ 255 ∷ 83 ∷ 0 ∷ 1 ∷ 28 ∷ 0 ∷ 0 ∷ 255 ∷ 255 ∷ 255 ∷ 255 ∷ 73 ∷ 0 ∷ 29 ∷ 6 ∷ 0 ∷ 3 ∷ 0 ∷ 4 ∷ 0 ∷ 8 ∷ 0 ∷ 0 ∷ 128 ∷ []) (pos 0 ∷ pos 0 ∷ pos 0 ∷ pos 0 ∷ pos 0 ∷ []) 24 (pos 0 ∷ pos 0 ∷ pos 0 ∷ pos 0 ∷ pos 0 ∷ []) ∷
-    image (15 ∷ 0 ∷ 1 ∷ 0 ∷ 2 ∷ 255 ∷ 255 ∷ 255 ∷ 127 ∷ 2 ∷ 0 ∷ 0 ∷ 0 ∷ 0 ∷ 2 ∷ 0 ∷ 0 ∷ 0 ∷ 0 ∷ 172 ∷ 0 ∷ 2 ∷ 0 ∷ 1 ∷ 2 ∷ 3 ∷ 0 ∷ 0 ∷ 0 ∷ 2 ∷ 4 ∷ 0 ∷ 0 ∷ 0 ∷ 26 ∷ 0 ∷ 4 ∷ 1 ∷ 27 ∷ 0 ∷ 1 ∷ 1 ∷ 0 ∷ 0 ∷ 0 ∷ 171 ∷ 0 ∷ 1 ∷ 1 ∷ 2 ∷ 3 ∷ 0 ∷ 0 ∷ 0 ∷ 2 ∷ 5 ∷ 0 ∷ 0 ∷ 0 ∷ 3 ∷ 0 ∷ 9 ∷ 17 ∷ 22 ∷ 50 ∷ 0 ∷ 1 ∷ 21 ∷ 171 ∷ 0 ∷ 21 ∷ 162 ∷ 0 ∷ 1 ∷ 2 ∷ 4 ∷ 0 ∷ 0 ∷ 0 ∷ 5 ∷ 3 ∷ 0 ∷ 26 ∷ 1 ∷ 4 ∷ 2 ∷ 27 ∷ 1 ∷ 2 ∷ 1 ∷ 0 ∷ 0 ∷ 0 ∷ 162 ∷ 0 ∷ 1 ∷ 1 ∷ 3 ∷ 0 ∷ 2 ∷ 1 ∷ 0 ∷ 0 ∷ 0 ∷ 10 ∷ 4 ∷ 0 ∷ 1 ∷ 3 ∷ 2 ∷ 3 ∷ 0 ∷ 5 ∷ 2 ∷ 1 ∷ 0 ∷ 0 ∷ 0 ∷ 11 ∷ 15 ∷ 22 ∷ 153 ∷ 0 ∷ 1 ∷ 21 ∷ 153 ∷ 0 ∷ 1 ∷ 3 ∷ 0 ∷ 2 ∷ 4 ∷ 0 ∷ 0 ∷ 0 ∷ 2 ∷ 4 ∷ 0 ∷ 0 ∷ 0 ∷ 7 ∷ 10 ∷ 3 ∷ 2 ∷ 11 ∷ 2 ∷ 3 ∷ 0 ∷ 0 ∷ 0 ∷ 7 ∷ 5 ∷ 3 ∷ 0 ∷ 5 ∷ 2 ∷ 4 ∷ 0 ∷ 0 ∷ 0 ∷ 8 ∷ 11 ∷ 4 ∷ 0 ∷ 1 ∷ 2 ∷ 1 ∷ 0 ∷ 0 ∷ 0 ∷ 22 ∷ 141 ∷ 0 ∷ 21 ∷ 84 ∷ 0 ∷ 28 ∷ 1 ∷ 2 ∷ 1 ∷ 0 ∷ 0 ∷ 0 ∷ 72 ∷ 0 ∷ 28 ∷ 0 ∷ 1 ∷ 1 ∷ 0 ∷ 0 ∷ 0 ∷ 24 ∷ 0 ∷ 29 ∷ 7 ∷ 0 ∷ 3 ∷ 0 ∷ 3 ∷ 0 ∷ 255 ∷ 255 ∷ 255 ∷ 255 ∷ []) [] 111 (report 23 0 0 0 []) ∷
     []
 
 cases6 : List Case
 cases6 =
+    meaningAt 11 (bytes "PROGRAM P VAR A:DINT; B:DINT; C:DINT; I:DINT; X:BOOL; END_VAR\nFOR I:=((((((((((((((((-A)))))))))))))))) TO ((((((((((((((((-A)))))))))))))))) DO END_FOR;\nEND_PROGRAM") (pos 19 ∷ negsuc 6 ∷ negsuc 0 ∷ pos 554837999 ∷ pos 1 ∷ []) 0 2 (pos 19 ∷ negsuc 6 ∷ negsuc 0 ∷ negsuc 18 ∷ pos 1 ∷ []) ∷
+    meaningAt 14 (bytes "program\nq99z_9_a099a_z_aza9_9z\n\nvar\u{c} end:boOL:=true;\r\u{c}b:\n\t(* *)diNt\t\u{c};INT\u{c}:\n\ndINt\r :=\r\t\r-135896265;LF\r\r:DINT\n///*/*\n;_1\u{c}\t(* *):dint\t\t;a:bool\r(* \" *):= (* /* *)\nfalse; \r\r_zZZ09xAxax_99aX0xX9aazx900xA:bool\n\t///*//\u{c};end_var (* (*(**)*)  //  *)END_PROGRAM") (pos 0 ∷ pos 0 ∷ negsuc 0 ∷ negsuc 12 ∷ pos 1 ∷ pos 0 ∷ []) 24 0 (pos 0 ∷ pos 0 ∷ negsuc 0 ∷ negsuc 12 ∷ pos 1 ∷ pos 0 ∷ []) ∷
+    filling (20 ∷ 0 ∷ 1 ∷ 0 ∷ 2 ∷ 0 ∷ 0 ∷ 0 ∷ 0 ∷ 1 ∷ 0 ∷ 0 ∷ 0 ∷ 0 ∷ 2 ∷ 0 ∷ 0 ∷ 0 ∷ 0 ∷ 2 ∷ 0 ∷ 0 ∷ 0 ∷ 0 ∷ 84 ∷ 0 ∷ 2 ∷ 0 ∷ 1 ∷ 3 ∷ 0 ∷ 2 ∷ 2 ∷ 0 ∷ 0 ∷ 0 ∷ 10 ∷ 4 ∷ 0 ∷ 1 ∷ 3 ∷ 2 ∷ 2 ∷ 8 ∷ 0 ∷ 0 ∷ 0 ∷ 8 ∷ 3 ∷ 0 ∷ 3 ∷ 0 ∷ 9 ∷ 3 ∷ 2 ∷ 2 ∷ 7 ∷ 0 ∷ 0 ∷ 0 ∷ 8 ∷ 5 ∷ 9 ∷ 9 ∷ 4 ∷ 3 ∷ 1 ∷ 3 ∷ 1 ∷ 4 ∷ 1 ∷ 1 ∷ 3 ∷ 1 ∷ 4 ∷ 1 ∷ 1 ∷ 2 ∷ 3 ∷ 0 ∷ 0 ∷ 0 ∷ 2 ∷ 255 ∷ 255 ∷ 255 ∷ 127 ∷ 5 ∷ 26 ∷ 0 ∷ 4 ∷ 0 ∷ 27 ∷ 0 ∷ 0 ∷ 255 ∷ 255 ∷ 255 ∷ 255 ∷ 83 ∷ 0 ∷ 1 ∷ 28 ∷ 0 ∷ 0 ∷ 255 ∷ 255 ∷ 255 ∷ 255 ∷ 73 ∷ 0 ∷ 29 ∷ 6 ∷ 0 ∷ 3 ∷ 0 ∷ 4 ∷ 0 ∷ 8 ∷ 0 ∷ 0 ∷ 128 ∷ []) (pos 0 ∷ pos 0 ∷ pos 0 ∷ pos 0 ∷ pos 0 ∷ []) 24 (pos 0 ∷ pos 0 ∷ pos 0 ∷ pos 0 ∷ pos 0 ∷ []) ∷
+    image (15 ∷ 0 ∷ 1 ∷ 0 ∷ 2 ∷ 255 ∷ 255 ∷ 255 ∷ 127 ∷ 2 ∷ 0 ∷ 0 ∷ 0 ∷ 0 ∷ 2 ∷ 0 ∷ 0 ∷ 0 ∷ 0 ∷ 172 ∷ 0 ∷ 2 ∷ 0 ∷ 1 ∷ 2 ∷ 3 ∷ 0 ∷ 0 ∷ 0 ∷ 2 ∷ 4 ∷ 0 ∷ 0 ∷ 0 ∷ 26 ∷ 0 ∷ 4 ∷ 1 ∷ 27 ∷ 0 ∷ 1 ∷ 1 ∷ 0 ∷ 0 ∷ 0 ∷ 171 ∷ 0 ∷ 1 ∷ 1 ∷ 2 ∷ 3 ∷ 0 ∷ 0 ∷ 0 ∷ 2 ∷ 5 ∷ 0 ∷ 0 ∷ 0 ∷ 3 ∷ 0 ∷ 9 ∷ 17 ∷ 22 ∷ 50 ∷ 0 ∷ 1 ∷ 21 ∷ 171 ∷ 0 ∷ 21 ∷ 162 ∷ 0 ∷ 1 ∷ 2 ∷ 4 ∷ 0 ∷ 0 ∷ 0 ∷ 5 ∷ 3 ∷ 0 ∷ 26 ∷ 1 ∷ 4 ∷ 2 ∷ 27 ∷ 1 ∷ 2 ∷ 1 ∷ 0 ∷ 0 ∷ 0 ∷ 162 ∷ 0 ∷ 1 ∷ 1 ∷ 3 ∷ 0 ∷ 2 ∷ 1 ∷ 0 ∷ 0 ∷ 0 ∷ 10 ∷ 4 ∷ 0 ∷ 1 ∷ 3 ∷ 2 ∷ 3 ∷ 0 ∷ 5 ∷ 2 ∷ 1 ∷ 0 ∷ 0 ∷ 0 ∷ 11 ∷ 15 ∷ 22 ∷ 153 ∷ 0 ∷ 1 ∷ 21 ∷ 153 ∷ 0 ∷ 1 ∷ 3 ∷ 0 ∷ 2 ∷ 4 ∷ 0 ∷ 0 ∷ 0 ∷ 2 ∷ 4 ∷ 0 ∷ 0 ∷ 0 ∷ 7 ∷ 10 ∷ 3 ∷ 2 ∷ 11 ∷ 2 ∷ 3 ∷ 0 ∷ 0 ∷ 0 ∷ 7 ∷ 5 ∷ 3 ∷ 0 ∷ 5 ∷ 2 ∷ 4 ∷ 0 ∷ 0 ∷ 0 ∷ 8 ∷ 11 ∷ 4 ∷ 0 ∷ 1 ∷ 2 ∷ 1 ∷ 0 ∷ 0 ∷ 0 ∷ 22 ∷ 141 ∷ 0 ∷ 21 ∷ 84 ∷ 0 ∷ 28 ∷ 1 ∷ 2 ∷ 1 ∷ 0 ∷ 0 ∷ 0 ∷ 72 ∷ 0 ∷ 28 ∷ 0 ∷ 1 ∷ 1 ∷ 0 ∷ 0 ∷ 0 ∷ 24 ∷ 0 ∷ 29 ∷ 7 ∷ 0 ∷ 3 ∷ 0 ∷ 3 ∷ 0 ∷ 255 ∷ 255 ∷ 255 ∷ 255 ∷ []) [] 111 (report 23 0 0 0 []) ∷
     meaningAt 3 (bytes " PROGRAM B VAR _1 : DINT ; END : DINT ; RETURN : BOOL := FALSE ; _ZAX90ZXZX990Z_9XZ : DINT ; K0X999AZAX_Z0_0AX_XZ0A0A_ZZ : BOOL ; INT : BOOL ; END_VAR _ZAX90ZXZX990Z_9XZ := _1 ; _1 := + ( - _ZAX90ZXZX990Z_9XZ ) ; END := _1 ; END_PROGRAM") (pos 1 ∷ negsuc 3 ∷ pos 0 ∷ negsuc 0 ∷ pos 0 ∷ pos 0 ∷ []) 0 3 (negsuc 0 ∷ negsuc 0 ∷ pos 0 ∷ pos 1 ∷ pos 0 ∷ pos 0 ∷ []) ∷
     compiling (bytes " PROGRAM B VAR _Z0_9_9A0X9009XA0AZ0X9XZX : DINT ; _1 : BOOL ; B : BOOL ; END_VAR CASE _Z0_9_9A0X9009XA0AZ0X9XZX OF 8#10 , 1 : REPEAT UNTIL B END_REPEAT ; 8#17777777776 , - 16#71f5ae04 .. 235557371 , 6 , - 2#1 : FOR _Z0_9_9A0X9009XA0AZ0X9XZX := _Z0_9_9A0X9009XA0AZ0X9XZX MOD _Z0_9_9A0X9009XA0AZ0X9XZX / _Z0_9_9A0X9009XA0AZ0X9XZX TO 2147483646 BY - 1 DO END_FOR ; + 16#0 .. 2#101 : ELSE END_CASE ; END_PROGRAM ") (accepted (15 ∷ 0 ∷ 1 ∷ 0 ∷ 2 ∷ 0 ∷ 0 ∷ 0 ∷ 0 ∷ 1 ∷ 0 ∷ 0 ∷ 0 ∷ 0 ∷ 1 ∷ 0 ∷ 0 ∷ 0 ∷ 0 ∷ 153 ∷ 0 ∷ 2 ∷ 0 ∷ 1 ∷ 3 ∷ 0 ∷ 23 ∷ 8 ∷ 0 ∷ 0 ∷ 0 ∷ 8 ∷ 0 ∷ 0 ∷ 0 ∷ 24 ∷ 30 ∷ 0 ∷ 23 ∷ 1 ∷ 0 ∷ 0 ∷ 0 ∷ 1 ∷ 0 ∷ 0 ∷ 0 ∷ 24 ∷ 30 ∷ 0 ∷ 21 ∷ 40 ∷ 0 ∷ 25 ∷ 1 ∷ 3 ∷ 2 ∷ 22 ∷ 31 ∷ 0 ∷ 21 ∷ 152 ∷ 0 ∷ 23 ∷ 254 ∷ 255 ∷ 255 ∷ 127 ∷ 254 ∷ 255 ∷ 255 ∷ 127 ∷ 24 ∷ 91 ∷ 0 ∷ 23 ∷ 252 ∷ 81 ∷ 10 ∷ 142 ∷ 251 ∷ 81 ∷ 10 ∷ 14 ∷ 24 ∷ 91 ∷ 0 ∷ 23 ∷ 6 ∷ 0 ∷ 0 ∷ 0 ∷ 6 ∷ 0 ∷ 0 ∷ 0 ∷ 24 ∷ 91 ∷ 0 ∷ 23 ∷ 255 ∷ 255 ∷ 255 ∷ 255 ∷ 255 ∷ 255 ∷ 255 ∷ 255 ∷ 24 ∷ 91 ∷ 0 ∷ 21 ∷ 132 ∷ 0 ∷ 25 ∷ 1 ∷ 3 ∷ 0 ∷ 3 ∷ 0 ∷ 9 ∷ 3 ∷ 0 ∷ 8 ∷ 2 ∷ 254 ∷ 255 ∷ 255 ∷ 127 ∷ 26 ∷ 0 ∷ 4 ∷ 0 ∷ 27 ∷ 0 ∷ 0 ∷ 255 ∷ 255 ∷ 255 ∷ 255 ∷ 129 ∷ 0 ∷ 1 ∷ 28 ∷ 0 ∷ 0 ∷ 255 ∷ 255 ∷ 255 ∷ 255 ∷ 119 ∷ 0 ∷ 21 ∷ 152 ∷ 0 ∷ 23 ∷ 0 ∷ 0 ∷ 0 ∷ 0 ∷ 5 ∷ 0 ∷ 0 ∷ 0 ∷ 24 ∷ 147 ∷ 0 ∷ 21 ∷ 151 ∷ 0 ∷ 25 ∷ 21 ∷ 152 ∷ 0 ∷ 25 ∷ 29 ∷ 6 ∷ 0 ∷ 3 ∷ 0 ∷ 2 ∷ 0 ∷ 255 ∷ 255 ∷ 255 ∷ 255 ∷ []) 153 2 4294967295) ∷
     compilingIn (bytes "PROGRAM P VAR A:DINT; B:DINT; C:DINT; I:DINT; X:BOOL; END_VAR\nREPEAT IF X THEN IF X THEN ; ELSE IF X THEN ; ELSE REPEAT IF X THEN ; ELSIF X THEN IF X THEN ; ELSE IF X THEN ; ELSIF X THEN IF X THEN WHILE X DO IF X THEN ; ELSE WHILE X DO IF X THEN ; ELSIF X THEN IF X THEN ; ELSE IF X THEN ; ELSE REPEAT A:=1; UNTIL TRUE END_REPEAT; END_IF; END_IF; END_IF; EXIT; END_WHILE; END_IF; EXIT; END_WHILE; END_IF; END_IF; END_IF; END_IF; UNTIL TRUE END_REPEAT; END_IF; END_IF; END_IF; UNTIL TRUE END_REPEAT;\nEND_PROGRAM") 54 (refused 14 510) ∷
@@ -729,14 +733,14 @@ cases6 =
     compiling (bytes " PROGRAM RETURN VAR : K00ZZZ_ZZ0ZA DINT ; K : BOOL := TRUE ; RETURN : BOOL ; I : DINT := 2147483646 ; END_VAR I := ( - ( ( ( 10 ) ) * ( K00ZZZ_ZZ0ZA + K00ZZZ_ZZ0ZA * ( 8 / NOT I 2#101 ) * - ( I MOD - ( - ( ( 16#1 - K00ZZZ_ZZ0ZA ) / ( 4 * ( + I ) ) ) ) ) ) ) ) / ( + ( ( K00ZZZ_ZZ0ZA + I ) * 8#0 FALSE ) ; IF K THEN ; ; I := I / 4 / ( 6 MOD 9 + ( 7 + K00ZZZ_ZZ0ZA ) ) ; K00ZZZ_ZZ0ZA := 2#001_011010100000101 ; K00ZZZ_ZZ0ZA := 6 ; RETURN := RETURN ; ELSIF K THEN REPEAT UNTIL I > + ( ( K00ZZZ_ZZ0ZA - I ) ) END_REPEAT ; I := I * - I ; END_IF ; END_PROGRAM\u{c}(* ** *)") (refused 5 20) ∷
     refusing (bytes "PROGRAM _Z9_0A_00XAZ_0XAA0XX_0_X VAR\rA:DINT:=16;END_VAR\rCASE\t2#0\rOF 2#11_10..2147483647,-2147483648:A:=A*2;A:=A+1;-1624443958..\n-1624443957: +1:ELSE\u{c}IF A<A- -A THEN;A:=A-1;CASE\t1\nOF\t8#0..1,-\u{c}:4\nREPEAT\tA:=A*2;UNTIL\u{c}FALSE\rEND_REPEAT;END_CASE;A:=A+2;CASE\nA\tOF+2#001_01:A:=A+2;ELSE\tEND_CASE;END_IF;END_CASE;END_PROGRAM") [] 4 5 191 ∷
     compilingIn (bytes "program\u{c}a\n\tVar\u{c}\u{c}\tqzx9za0_9a09_xx9xa_xx\u{c} \r:\u{c}\nbool;\rQ_0A_ZZZX0ZX\r(* x (*(**)*) *) :\nBOOL\u{c}\r\n;Kz_Zz_A_z0A0a_z\t\r(* (*(**)*) *):dInt\u{c}\n\r;\n\r\t_zaaz9_xx_a_09a:dinT;END_VAR\t  KZ_ZZ_A_Z0A0A_Z:=kZ_zz_A_Z0A0A_Z\r\r(* ** 1..5 :=  *)mod\u{c}(* *)_zaaz9_xx_a_09a (* *)\nMOD\n\r\tKZ_ZZ_A_Z0A0A_Z\u{c}/_ZaAz9_Xx_a_09A \u{c}END_PROGRAM;") 8530 (refused 5 286) ∷
-    meaningAt 3 (bytes "PROGRAM\u{c}RETURN\tVAR B:BOOL;LF:DINT;I:BOOL;KZAAX:DINT;END:DINT;KZZ_ZA9XZZZZ0AZ_9AX:DINT;K_0A_9_Z_ZXA:DINT:=2147483647;END_VAR\nFOR\u{c}KZAAX:=5 TO 5\nBY-0_01\rDO\u{c}EXIT;END_FOR;END_PROGRAM") (pos 0 ∷ negsuc 1615002321 ∷ pos 1 ∷ negsuc 14 ∷ negsuc 0 ∷ pos 2 ∷ negsuc 448769312 ∷ []) 0 3 (pos 0 ∷ negsuc 1615002321 ∷ pos 1 ∷ pos 5 ∷ negsuc 0 ∷ pos 2 ∷ negsuc 448769312 ∷ []) ∷
-    compiling (bytes "program  \rEnd\t(* \" *) VAR\r b:\u{c}\t\u{c}DINT;\ni:\u{c}DINT;\u{c}end_var\t\n\tREPEAT\u{c}(* /* *)\nrEpEat\u{c}\u{c}(* *)for\nI:=   ; (* /* *) TO(2147483648\r\r\n) do\tcase\u{c}16#003\t of (* *)(* \" *)16#2238a7f\r(* (* *) (* *) *)\u{c}:19:EXIT (* 1..5 :=  1..5 :=  *);if \u{c}B\n//END_PROGRAM;\u{c} THEN;\u{c};\r ElSIf\tfalse \u{c}///*\rTHEN\t(* *)\nElsiF\n(* *)b\rthen\u{c}end__if\r\r///*\u{c}eLse\r(* ** *)end_if\t;2#1, 2#10100\r:  -4\t(* (*(**)*) (*(**)*) *)//\u{c},\u{c}\r2147483648:enD_CAse;eND_fOr\t\n\t2#11\u{c}\n\tuntil\tI\t\n>=I\r\u{c}mod  6 \tend_repeat\u{c};UNTIL\u{c} FALSE \t<>B\tEND_REPEAT\t// (* \u{c}\u{c};\u{c}eNd_PROgrAm") (refused 3 296) ∷
-    compiling (bytes "program\n///*\ni\t(* *)\rVAR\u{c}(* *)\rQZZ\t//*)\u{c}\r:diNt:=20;\n (* (*)*) *)<>\n\t:TRUe (* (*)*) *)\t;\t_zzxzaaa9aa90z9\r\t:bool\r\n := DINT\t ;END_VAR\tend_program") (refused 5 64) ∷
-    image (10 ∷ 0 ∷ 1 ∷ 0 ∷ 2 ∷ 255 ∷ 255 ∷ 255 ∷ 255 ∷ 1 ∷ 0 ∷ 0 ∷ 0 ∷ 0 ∷ 48 ∷ 0 ∷ 2 ∷ 0 ∷ 192 ∷ 115 ∷ 254 ∷ 98 ∷ 75 ∷ 128 ∷ 219 ∷ 16 ∷ 114 ∷ 144 ∷ 23 ∷ 27 ∷ 145 ∷ 141 ∷ 54 ∷ 99 ∷ 45 ∷ 84 ∷ 169 ∷ 176 ∷ 31 ∷ 168 ∷ 207 ∷ 39 ∷ 120 ∷ 118 ∷ 253 ∷ 247 ∷ 83 ∷ 237 ∷ 139 ∷ 134 ∷ 108 ∷ 165 ∷ 53 ∷ 225 ∷ 236 ∷ 181 ∷ 227 ∷ 192 ∷ 107 ∷ 48 ∷ 156 ∷ 239 ∷ 24 ∷ 25 ∷ 184 ∷ 49 ∷ 6 ∷ 0 ∷ 3 ∷ 0 ∷ 15 ∷ 0 ∷ 56 ∷ 251 ∷ 68 ∷ 92 ∷ []) (negsuc 620233338 ∷ pos 1 ∷ []) 4 (report 25 0 0 0 (negsuc 620233338 ∷ pos 1 ∷ [])) ∷
     []
 
 cases7 : List Case
 cases7 =
+    meaningAt 3 (bytes "PROGRAM\u{c}RETURN\tVAR B:BOOL;LF:DINT;I:BOOL;KZAAX:DINT;END:DINT;KZZ_ZA9XZZZZ0AZ_9AX:DINT;K_0A_9_Z_ZXA:DINT:=2147483647;END_VAR\nFOR\u{c}KZAAX:=5 TO 5\nBY-0_01\rDO\u{c}EXIT;END_FOR;END_PROGRAM") (pos 0 ∷ negsuc 1615002321 ∷ pos 1 ∷ negsuc 14 ∷ negsuc 0 ∷ pos 2 ∷ negsuc 448769312 ∷ []) 0 3 (pos 0 ∷ negsuc 1615002321 ∷ pos 1 ∷ pos 5 ∷ negsuc 0 ∷ pos 2 ∷ negsuc 448769312 ∷ []) ∷
+    compiling (bytes "program  \rEnd\t(* \" *) VAR\r b:\u{c}\t\u{c}DINT;\ni:\u{c}DINT;\u{c}end_var\t\n\tREPEAT\u{c}(* /* *)\nrEpEat\u{c}\u{c}(* *)for\nI:=   ; (* /* *) TO(2147483648\r\r\n) do\tcase\u{c}16#003\t of (* *)(* \" *)16#2238a7f\r(* (* *) (* *) *)\u{c}:19:EXIT (* 1..5 :=  1..5 :=  *);if \u{c}B\n//END_PROGRAM;\u{c} THEN;\u{c};\r ElSIf\tfalse \u{c}///*\rTHEN\t(* *)\nElsiF\n(* *)b\rthen\u{c}end__if\r\r///*\u{c}eLse\r(* ** *)end_if\t;2#1, 2#10100\r:  -4\t(* (*(**)*) (*(**)*) *)//\u{c},\u{c}\r2147483648:enD_CAse;eND_fOr\t\n\t2#11\u{c}\n\tuntil\tI\t\n>=I\r\u{c}mod  6 \tend_repeat\u{c};UNTIL\u{c} FALSE \t<>B\tEND_REPEAT\t// (* \u{c}\u{c};\u{c}eNd_PROgrAm") (refused 3 296) ∷
+    compiling (bytes "program\n///*\ni\t(* *)\rVAR\u{c}(* *)\rQZZ\t//*)\u{c}\r:diNt:=20;\n (* (*)*) *)<>\n\t:TRUe (* (*)*) *)\t;\t_zzxzaaa9aa90z9\r\t:bool\r\n := DINT\t ;END_VAR\tend_program") (refused 5 64) ∷
+    image (10 ∷ 0 ∷ 1 ∷ 0 ∷ 2 ∷ 255 ∷ 255 ∷ 255 ∷ 255 ∷ 1 ∷ 0 ∷ 0 ∷ 0 ∷ 0 ∷ 48 ∷ 0 ∷ 2 ∷ 0 ∷ 192 ∷ 115 ∷ 254 ∷ 98 ∷ 75 ∷ 128 ∷ 219 ∷ 16 ∷ 114 ∷ 144 ∷ 23 ∷ 27 ∷ 145 ∷ 141 ∷ 54 ∷ 99 ∷ 45 ∷ 84 ∷ 169 ∷ 176 ∷ 31 ∷ 168 ∷ 207 ∷ 39 ∷ 120 ∷ 118 ∷ 253 ∷ 247 ∷ 83 ∷ 237 ∷ 139 ∷ 134 ∷ 108 ∷ 165 ∷ 53 ∷ 225 ∷ 236 ∷ 181 ∷ 227 ∷ 192 ∷ 107 ∷ 48 ∷ 156 ∷ 239 ∷ 24 ∷ 25 ∷ 184 ∷ 49 ∷ 6 ∷ 0 ∷ 3 ∷ 0 ∷ 15 ∷ 0 ∷ 56 ∷ 251 ∷ 68 ∷ 92 ∷ []) (negsuc 620233338 ∷ pos 1 ∷ []) 4 (report 25 0 0 0 (negsuc 620233338 ∷ pos 1 ∷ [])) ∷
     refusing (bytes "pROGram\u{c}RetUrN \t var (* /* x *)\nINT\n\n:BOOL;I:DINT;a: \nbOoL\u{c}\r;end_Va\t \rEND_PRoGraM") [] 2 5 70 ∷
     compiling (bytes " PROGRAM Q099_Z_ZX_A0A9A90X00X_9 VAR B : DINT := - 16#1 ; KX00ZX9X9_X90_Z0_9ZXA900ZZ0 : DINT ; END : DINT ; I : DINT := - 13 ; END_VAR END_PROGRAM") (accepted (20 ∷ 0 ∷ 1 ∷ 0 ∷ 2 ∷ 255 ∷ 255 ∷ 255 ∷ 255 ∷ 2 ∷ 0 ∷ 0 ∷ 0 ∷ 0 ∷ 2 ∷ 0 ∷ 0 ∷ 0 ∷ 0 ∷ 2 ∷ 243 ∷ 255 ∷ 255 ∷ 255 ∷ 1 ∷ 0 ∷ 2 ∷ 0 ∷ 29 ∷ 6 ∷ 0 ∷ 3 ∷ 0 ∷ 0 ∷ 0 ∷ 0 ∷ 0 ∷ 0 ∷ 0 ∷ []) 1 0 0) ∷
     image (35 ∷ 0 ∷ 1 ∷ 0 ∷ 2 ∷ 0 ∷ 0 ∷ 0 ∷ 0 ∷ 2 ∷ 0 ∷ 0 ∷ 0 ∷ 0 ∷ 2 ∷ 0 ∷ 0 ∷ 0 ∷ 0 ∷ 1 ∷ 0 ∷ 0 ∷ 0 ∷ 0 ∷ 1 ∷ 0 ∷ 0 ∷ 0 ∷ 0 ∷ 2 ∷ 0 ∷ 0 ∷ 0 ∷ 0 ∷ 2 ∷ 0 ∷ 0 ∷ 0 ∷ 0 ∷ 171 ∷ 0 ∷ 2 ∷ 0 ∷ 1 ∷ 3 ∷ 4 ∷ 22 ∷ 165 ∷ 0 ∷ 1 ∷ 2 ∷ 6 ∷ 0 ∷ 0 ∷ 0 ∷ 2 ∷ 2 ∷ 0 ∷ 0 ∷ 0 ∷ 26 ∷ 0 ∷ 4 ∷ 2 ∷ 27 ∷ 0 ∷ 2 ∷ 253 ∷ 255 ∷ 255 ∷ 255 ∷ 162 ∷ 0 ∷ 1 ∷ 1 ∷ 3 ∷ 6 ∷ 2 ∷ 1 ∷ 0 ∷ 0 ∷ 0 ∷ 10 ∷ 4 ∷ 6 ∷ 1 ∷ 2 ∷ 0 ∷ 0 ∷ 0 ∷ 0 ∷ 4 ∷ 3 ∷ 1 ∷ 3 ∷ 5 ∷ 3 ∷ 1 ∷ 14 ∷ 4 ∷ 3 ∷ 1 ∷ 2 ∷ 5 ∷ 0 ∷ 0 ∷ 0 ∷ 23 ∷ 1 ∷ 0 ∷ 0 ∷ 0 ∷ 255 ∷ 255 ∷ 255 ∷ 127 ∷ 24 ∷ 79 ∷ 0 ∷ 21 ∷ 83 ∷ 0 ∷ 25 ∷ 21 ∷ 153 ∷ 0 ∷ 23 ∷ 2 ∷ 0 ∷ 0 ∷ 0 ∷ 2 ∷ 0 ∷ 0 ∷ 0 ∷ 24 ∷ 98 ∷ 0 ∷ 21 ∷ 102 ∷ 0 ∷ 25 ∷ 21 ∷ 153 ∷ 0 ∷ 23 ∷ 0 ∷ 0 ∷ 0 ∷ 0 ∷ 0 ∷ 0 ∷ 0 ∷ 0 ∷ 24 ∷ 129 ∷ 0 ∷ 23 ∷ 19 ∷ 0 ∷ 0 ∷ 0 ∷ 20 ∷ 0 ∷ 0 ∷ 0 ∷ 24 ∷ 129 ∷ 0 ∷ 21 ∷ 133 ∷ 0 ∷ 25 ∷ 21 ∷ 153 ∷ 0 ∷ 23 ∷ 9 ∷ 0 ∷ 0 ∷ 0 ∷ 9 ∷ 0 ∷ 0 ∷ 0 ∷ 24 ∷ 148 ∷ 0 ∷ 21 ∷ 152 ∷ 0 ∷ 25 ∷ 21 ∷ 153 ∷ 0 ∷ 25 ∷ 28 ∷ 0 ∷ 2 ∷ 253 ∷ 255 ∷ 255 ∷ 255 ∷ 30 ∷ 0 ∷ 21 ∷ 170 ∷ 0 ∷ 3 ∷ 3 ∷ 22 ∷ 170 ∷ 0 ∷ 29 ∷ 6 ∷ 0 ∷ 3 ∷ 0 ∷ 2 ∷ 0 ∷ 12 ∷ 0 ∷ 0 ∷ 0 ∷ []) (negsuc 0 ∷ pos 0 ∷ negsuc 2147483647 ∷ pos 0 ∷ pos 0 ∷ negsuc 5 ∷ pos 2147483647 ∷ []) 22 (report 0 1 6 170 (negsuc 0 ∷ pos 0 ∷ negsuc 2147483647 ∷ pos 0 ∷ pos 0 ∷ negsuc 5 ∷ pos 2147483647 ∷ [])) ∷
@@ -833,14 +837,14 @@ cases7 =
     meaningAt 0 (bytes " PROGRAM I VAR I : DINT ; LF : DINT := + 2#101100110101000_1011111110_00111 ; END_VAR IF FALSE THEN END_IF ; ; ; REPEAT WHILE TRUE DO END_WHILE ; UNTIL LF / ( I ) > 6 END_REPEAT ; I := LF ; CASE 7 OF - 8#12 , 1 : LF := LF - 1 ; REPEAT LF := LF ; UNTIL FALSE END_REPEAT ; END_CASE ; END_PROGRAM\u{c}\u{c}") (pos 2147483646 ∷ pos 6 ∷ []) 20 0 (pos 2147483646 ∷ pos 6 ∷ []) ∷
     compiling (bytes " PROGRAM B VAR END_,AR END_PROGRAM\t") (refused 3 15) ∷
     compiling (61 ∷ 92 ∷ 114 ∷ 34 ∷ 91 ∷ 128 ∷ 255 ∷ 41 ∷ 57 ∷ 61 ∷ 164 ∷ 62 ∷ 48 ∷ 57 ∷ 57 ∷ 150 ∷ 41 ∷ 59 ∷ []) (refused 2 1) ∷
-    compiling (bytes " PROGRAM INT VAR _ZX : DINT := - 16#2061a07d ; KXXZXZXZX_Z : BOOL ; LF : DINT ; B : DINT := 16#5c3513a7 ; A : DINT ; KX : BOOL := TRUE ; END_VAR IF KXXZXZXZX_Z THEN ELSE A := 16#b ; CASE ( - A ) MOD A OF 16#632bd_ea3 : CASE 8#1 / ( 8#005 * LF ) OF - 2#11 , 8#1 .. 2#10 : CASE _ZX OF - 2#10_0000000000000000000_0_0000000000 , - 2137340200 : _ZX := _ZX * 2 ; _ZX := B ; REPEAT ; KXXZXZXZX_Z := KX ; KXXZXZXZX_Z := NOT ( - ( ( B ) ) <> B ) ; UNTIL TRUE OR TRUE END_REPEAT ; 16#0 , - 8#17777777777 : 2#1 .. + 2 , - 2#1100_0111110_00001001111101_10110 : END_CASE ; + 19164_74985 : END_CASE ; - 1 .. - 8#1 : 1 : END_CASE ; END_IF ; END_PROGRAM") (accepted (30 ∷ 0 ∷ 1 ∷ 0 ∷ 2 ∷ 131 ∷ 95 ∷ 158 ∷ 223 ∷ 1 ∷ 0 ∷ 0 ∷ 0 ∷ 0 ∷ 2 ∷ 0 ∷ 0 ∷ 0 ∷ 0 ∷ 2 ∷ 167 ∷ 19 ∷ 53 ∷ 92 ∷ 2 ∷ 0 ∷ 0 ∷ 0 ∷ 0 ∷ 1 ∷ 1 ∷ 0 ∷ 0 ∷ 0 ∷ 36 ∷ 1 ∷ 2 ∷ 0 ∷ 1 ∷ 3 ∷ 1 ∷ 22 ∷ 9 ∷ 0 ∷ 21 ∷ 35 ∷ 1 ∷ 1 ∷ 2 ∷ 11 ∷ 0 ∷ 0 ∷ 0 ∷ 4 ∷ 4 ∷ 1 ∷ 3 ∷ 4 ∷ 5 ∷ 3 ∷ 4 ∷ 9 ∷ 23 ∷ 163 ∷ 222 ∷ 43 ∷ 99 ∷ 163 ∷ 222 ∷ 43 ∷ 99 ∷ 24 ∷ 39 ∷ 0 ∷ 21 ∷ 252 ∷ 0 ∷ 25 ∷ 1 ∷ 2 ∷ 1 ∷ 0 ∷ 0 ∷ 0 ∷ 2 ∷ 5 ∷ 0 ∷ 0 ∷ 0 ∷ 3 ∷ 2 ∷ 7 ∷ 8 ∷ 23 ∷ 253 ∷ 255 ∷ 255 ∷ 255 ∷ 253 ∷ 255 ∷ 255 ∷ 255 ∷ 24 ∷ 82 ∷ 0 ∷ 23 ∷ 1 ∷ 0 ∷ 0 ∷ 0 ∷ 2 ∷ 0 ∷ 0 ∷ 0 ∷ 24 ∷ 82 ∷ 0 ∷ 21 ∷ 229 ∷ 0 ∷ 25 ∷ 1 ∷ 3 ∷ 0 ∷ 23 ∷ 0 ∷ 0 ∷ 0 ∷ 128 ∷ 0 ∷ 0 ∷ 0 ∷ 128 ∷ 24 ∷ 113 ∷ 0 ∷ 23 ∷ 216 ∷ 198 ∷ 154 ∷ 128 ∷ 216 ∷ 198 ∷ 154 ∷ 128 ∷ 24 ∷ 113 ∷ 0 ∷ 21 ∷ 163 ∷ 0 ∷ 25 ∷ 1 ∷ 3 ∷ 0 ∷ 2 ∷ 2 ∷ 0 ∷ 0 ∷ 0 ∷ 7 ∷ 4 ∷ 0 ∷ 1 ∷ 3 ∷ 3 ∷ 4 ∷ 0 ∷ 1 ∷ 1 ∷ 3 ∷ 5 ∷ 4 ∷ 1 ∷ 1 ∷ 3 ∷ 3 ∷ 5 ∷ 3 ∷ 3 ∷ 17 ∷ 6 ∷ 4 ∷ 1 ∷ 2 ∷ 1 ∷ 0 ∷ 0 ∷ 0 ∷ 2 ∷ 1 ∷ 0 ∷ 0 ∷ 0 ∷ 20 ∷ 22 ∷ 130 ∷ 0 ∷ 21 ∷ 226 ∷ 0 ∷ 23 ∷ 0 ∷ 0 ∷ 0 ∷ 0 ∷ 0 ∷ 0 ∷ 0 ∷ 0 ∷ 24 ∷ 190 ∷ 0 ∷ 23 ∷ 1 ∷ 0 ∷ 0 ∷ 128 ∷ 1 ∷ 0 ∷ 0 ∷ 128 ∷ 24 ∷ 190 ∷ 0 ∷ 21 ∷ 194 ∷ 0 ∷ 25 ∷ 21 ∷ 226 ∷ 0 ∷ 23 ∷ 1 ∷ 0 ∷ 0 ∷ 0 ∷ 2 ∷ 0 ∷ 0 ∷ 0 ∷ 24 ∷ 221 ∷ 0 ∷ 23 ∷ 74 ∷ 176 ∷ 15 ∷ 206 ∷ 74 ∷ 176 ∷ 15 ∷ 206 ∷ 24 ∷ 221 ∷ 0 ∷ 21 ∷ 225 ∷ 0 ∷ 25 ∷ 21 ∷ 226 ∷ 0 ∷ 25 ∷ 21 ∷ 249 ∷ 0 ∷ 23 ∷ 105 ∷ 22 ∷ 59 ∷ 114 ∷ 105 ∷ 22 ∷ 59 ∷ 114 ∷ 24 ∷ 244 ∷ 0 ∷ 21 ∷ 248 ∷ 0 ∷ 25 ∷ 21 ∷ 249 ∷ 0 ∷ 25 ∷ 21 ∷ 35 ∷ 1 ∷ 23 ∷ 255 ∷ 255 ∷ 255 ∷ 255 ∷ 255 ∷ 255 ∷ 255 ∷ 255 ∷ 24 ∷ 11 ∷ 1 ∷ 21 ∷ 15 ∷ 1 ∷ 25 ∷ 21 ∷ 35 ∷ 1 ∷ 23 ∷ 1 ∷ 0 ∷ 0 ∷ 0 ∷ 1 ∷ 0 ∷ 0 ∷ 0 ∷ 24 ∷ 30 ∷ 1 ∷ 21 ∷ 34 ∷ 1 ∷ 25 ∷ 21 ∷ 35 ∷ 1 ∷ 25 ∷ 29 ∷ 6 ∷ 0 ∷ 3 ∷ 0 ∷ 3 ∷ 0 ∷ 255 ∷ 255 ∷ 255 ∷ 255 ∷ []) 292 3 4294967295) ∷
-    compiling (bytes "PROGRAM \u{c}(* *)INT\u{c}\rvar\tint:\tBOOL;B (* (*(**)*) x *)\t:Dint:=\t(* /* *)\u{c}-2#1010 (* *)\r;eND_VAR;\u{c}b:=\r8\r;ENd_PROGraM") (accepted (10 ∷ 0 ∷ 1 ∷ 0 ∷ 1 ∷ 0 ∷ 0 ∷ 0 ∷ 0 ∷ 2 ∷ 246 ∷ 255 ∷ 255 ∷ 255 ∷ 9 ∷ 0 ∷ 2 ∷ 0 ∷ 1 ∷ 2 ∷ 8 ∷ 0 ∷ 0 ∷ 0 ∷ 4 ∷ 1 ∷ 29 ∷ 6 ∷ 0 ∷ 3 ∷ 0 ∷ 1 ∷ 0 ∷ 1 ∷ 0 ∷ 0 ∷ 0 ∷ []) 9 1 1) ∷
-    compiling (bytes " PROGRAM _1 VAR _1 : DINT ; KZ_Z : DINT ; I : DINT := 2#0 ; INT : DINT ; EXIT ; END_VAR CASE ( 2#11 * + I ) OF - 1 .. 16#007ffffffe : - 20 , 8#0 .. + 2147483647 : _1 := I MOD I ; I := I * 2 ; I := I - 1 ; ; INT := ( ( 11 MOD _1 ) MOD ( _1 / _1 * KZ_Z MOD ( - KZ_Z - ( 11 ) / I ) ) _1 MOD ( ( ( INT ) / ( - INT ) ) ) ; - 2#001111 .. 2147483632 : INT := INT ; END_CASE ; REPEAT UNTIL TRUE END_REPEAT ; FOR I := - 8#0_04 TO - 0 BY 8#1 DO END_FOR ; ; INT := INT + 2 ; CASE UNKNOWN_NAME OF 16#0 : + 8#14 , + 0 .. 2#10_1 : - 002099263629 .. 00_48220018 , 16#0_080000000 : , ; END_PROGRAM") (refused 5 73) ∷
-    compilingIn (bytes " PROGRAM RETURN VAR K90 : BOOL ; _Z0_AXX0_Z0Z00Z_X_AZX0 : BOOL ; _ZX_AZ_0X_0ZAA_9Z_99_9 : BOOL := TRUE ; I : BOOL := TRUE ; END_VAR IF NOT ( NOT ( I <> K90 ) ) THEN K90 := K90 ; ; ; ; ; IF NOT TRUE THEN ; ; ELSIF NOT ( TRUE AND K90 ) THEN ELSE IF _Z0_AXX0_Z0Z00Z_X_AZX0 THEN _Z0_AXX0_Z0Z00Z_X_AZX0 := _ZX_AZ_0X_0ZAA_9Z_99_9 OR ( 16#3 = 6 ) ; _Z0_AXX0_Z0Z00Z_X_AZX0 := NOT K90 ; END_IF ; REPEAT ; EXIT ; UNTIL + ( 8 + 16#007 ) * ( 16#a ) < ( - 6 ) END_REPEAT ; ; _Z0_AXX0_Z0Z00Z_X_AZX0 := 2#100 = 8#13 ; ; END_IF ; ; ; I := _ZX_AZ_0X_0ZAA_9Z_99_9 ; _ZX_AZ_0X_0ZAA_9Z_99_9 := 16#0 + 3 / 8#2 < ( 0 + 16#1 * 1 ) MOD 4 / ( ") 35 (refused 5 618) ∷
     []
 
 cases8 : List Case
 cases8 =
+    compiling (bytes " PROGRAM INT VAR _ZX : DINT := - 16#2061a07d ; KXXZXZXZX_Z : BOOL ; LF : DINT ; B : DINT := 16#5c3513a7 ; A : DINT ; KX : BOOL := TRUE ; END_VAR IF KXXZXZXZX_Z THEN ELSE A := 16#b ; CASE ( - A ) MOD A OF 16#632bd_ea3 : CASE 8#1 / ( 8#005 * LF ) OF - 2#11 , 8#1 .. 2#10 : CASE _ZX OF - 2#10_0000000000000000000_0_0000000000 , - 2137340200 : _ZX := _ZX * 2 ; _ZX := B ; REPEAT ; KXXZXZXZX_Z := KX ; KXXZXZXZX_Z := NOT ( - ( ( B ) ) <> B ) ; UNTIL TRUE OR TRUE END_REPEAT ; 16#0 , - 8#17777777777 : 2#1 .. + 2 , - 2#1100_0111110_00001001111101_10110 : END_CASE ; + 19164_74985 : END_CASE ; - 1 .. - 8#1 : 1 : END_CASE ; END_IF ; END_PROGRAM") (accepted (30 ∷ 0 ∷ 1 ∷ 0 ∷ 2 ∷ 131 ∷ 95 ∷ 158 ∷ 223 ∷ 1 ∷ 0 ∷ 0 ∷ 0 ∷ 0 ∷ 2 ∷ 0 ∷ 0 ∷ 0 ∷ 0 ∷ 2 ∷ 167 ∷ 19 ∷ 53 ∷ 92 ∷ 2 ∷ 0 ∷ 0 ∷ 0 ∷ 0 ∷ 1 ∷ 1 ∷ 0 ∷ 0 ∷ 0 ∷ 36 ∷ 1 ∷ 2 ∷ 0 ∷ 1 ∷ 3 ∷ 1 ∷ 22 ∷ 9 ∷ 0 ∷ 21 ∷ 35 ∷ 1 ∷ 1 ∷ 2 ∷ 11 ∷ 0 ∷ 0 ∷ 0 ∷ 4 ∷ 4 ∷ 1 ∷ 3 ∷ 4 ∷ 5 ∷ 3 ∷ 4 ∷ 9 ∷ 23 ∷ 163 ∷ 222 ∷ 43 ∷ 99 ∷ 163 ∷ 222 ∷ 43 ∷ 99 ∷ 24 ∷ 39 ∷ 0 ∷ 21 ∷ 252 ∷ 0 ∷ 25 ∷ 1 ∷ 2 ∷ 1 ∷ 0 ∷ 0 ∷ 0 ∷ 2 ∷ 5 ∷ 0 ∷ 0 ∷ 0 ∷ 3 ∷ 2 ∷ 7 ∷ 8 ∷ 23 ∷ 253 ∷ 255 ∷ 255 ∷ 255 ∷ 253 ∷ 255 ∷ 255 ∷ 255 ∷ 24 ∷ 82 ∷ 0 ∷ 23 ∷ 1 ∷ 0 ∷ 0 ∷ 0 ∷ 2 ∷ 0 ∷ 0 ∷ 0 ∷ 24 ∷ 82 ∷ 0 ∷ 21 ∷ 229 ∷ 0 ∷ 25 ∷ 1 ∷ 3 ∷ 0 ∷ 23 ∷ 0 ∷ 0 ∷ 0 ∷ 128 ∷ 0 ∷ 0 ∷ 0 ∷ 128 ∷ 24 ∷ 113 ∷ 0 ∷ 23 ∷ 216 ∷ 198 ∷ 154 ∷ 128 ∷ 216 ∷ 198 ∷ 154 ∷ 128 ∷ 24 ∷ 113 ∷ 0 ∷ 21 ∷ 163 ∷ 0 ∷ 25 ∷ 1 ∷ 3 ∷ 0 ∷ 2 ∷ 2 ∷ 0 ∷ 0 ∷ 0 ∷ 7 ∷ 4 ∷ 0 ∷ 1 ∷ 3 ∷ 3 ∷ 4 ∷ 0 ∷ 1 ∷ 1 ∷ 3 ∷ 5 ∷ 4 ∷ 1 ∷ 1 ∷ 3 ∷ 3 ∷ 5 ∷ 3 ∷ 3 ∷ 17 ∷ 6 ∷ 4 ∷ 1 ∷ 2 ∷ 1 ∷ 0 ∷ 0 ∷ 0 ∷ 2 ∷ 1 ∷ 0 ∷ 0 ∷ 0 ∷ 20 ∷ 22 ∷ 130 ∷ 0 ∷ 21 ∷ 226 ∷ 0 ∷ 23 ∷ 0 ∷ 0 ∷ 0 ∷ 0 ∷ 0 ∷ 0 ∷ 0 ∷ 0 ∷ 24 ∷ 190 ∷ 0 ∷ 23 ∷ 1 ∷ 0 ∷ 0 ∷ 128 ∷ 1 ∷ 0 ∷ 0 ∷ 128 ∷ 24 ∷ 190 ∷ 0 ∷ 21 ∷ 194 ∷ 0 ∷ 25 ∷ 21 ∷ 226 ∷ 0 ∷ 23 ∷ 1 ∷ 0 ∷ 0 ∷ 0 ∷ 2 ∷ 0 ∷ 0 ∷ 0 ∷ 24 ∷ 221 ∷ 0 ∷ 23 ∷ 74 ∷ 176 ∷ 15 ∷ 206 ∷ 74 ∷ 176 ∷ 15 ∷ 206 ∷ 24 ∷ 221 ∷ 0 ∷ 21 ∷ 225 ∷ 0 ∷ 25 ∷ 21 ∷ 226 ∷ 0 ∷ 25 ∷ 21 ∷ 249 ∷ 0 ∷ 23 ∷ 105 ∷ 22 ∷ 59 ∷ 114 ∷ 105 ∷ 22 ∷ 59 ∷ 114 ∷ 24 ∷ 244 ∷ 0 ∷ 21 ∷ 248 ∷ 0 ∷ 25 ∷ 21 ∷ 249 ∷ 0 ∷ 25 ∷ 21 ∷ 35 ∷ 1 ∷ 23 ∷ 255 ∷ 255 ∷ 255 ∷ 255 ∷ 255 ∷ 255 ∷ 255 ∷ 255 ∷ 24 ∷ 11 ∷ 1 ∷ 21 ∷ 15 ∷ 1 ∷ 25 ∷ 21 ∷ 35 ∷ 1 ∷ 23 ∷ 1 ∷ 0 ∷ 0 ∷ 0 ∷ 1 ∷ 0 ∷ 0 ∷ 0 ∷ 24 ∷ 30 ∷ 1 ∷ 21 ∷ 34 ∷ 1 ∷ 25 ∷ 21 ∷ 35 ∷ 1 ∷ 25 ∷ 29 ∷ 6 ∷ 0 ∷ 3 ∷ 0 ∷ 3 ∷ 0 ∷ 255 ∷ 255 ∷ 255 ∷ 255 ∷ []) 292 3 4294967295) ∷
+    compiling (bytes "PROGRAM \u{c}(* *)INT\u{c}\rvar\tint:\tBOOL;B (* (*(**)*) x *)\t:Dint:=\t(* /* *)\u{c}-2#1010 (* *)\r;eND_VAR;\u{c}b:=\r8\r;ENd_PROGraM") (accepted (10 ∷ 0 ∷ 1 ∷ 0 ∷ 1 ∷ 0 ∷ 0 ∷ 0 ∷ 0 ∷ 2 ∷ 246 ∷ 255 ∷ 255 ∷ 255 ∷ 9 ∷ 0 ∷ 2 ∷ 0 ∷ 1 ∷ 2 ∷ 8 ∷ 0 ∷ 0 ∷ 0 ∷ 4 ∷ 1 ∷ 29 ∷ 6 ∷ 0 ∷ 3 ∷ 0 ∷ 1 ∷ 0 ∷ 1 ∷ 0 ∷ 0 ∷ 0 ∷ []) 9 1 1) ∷
+    compiling (bytes " PROGRAM _1 VAR _1 : DINT ; KZ_Z : DINT ; I : DINT := 2#0 ; INT : DINT ; EXIT ; END_VAR CASE ( 2#11 * + I ) OF - 1 .. 16#007ffffffe : - 20 , 8#0 .. + 2147483647 : _1 := I MOD I ; I := I * 2 ; I := I - 1 ; ; INT := ( ( 11 MOD _1 ) MOD ( _1 / _1 * KZ_Z MOD ( - KZ_Z - ( 11 ) / I ) ) _1 MOD ( ( ( INT ) / ( - INT ) ) ) ; - 2#001111 .. 2147483632 : INT := INT ; END_CASE ; REPEAT UNTIL TRUE END_REPEAT ; FOR I := - 8#0_04 TO - 0 BY 8#1 DO END_FOR ; ; INT := INT + 2 ; CASE UNKNOWN_NAME OF 16#0 : + 8#14 , + 0 .. 2#10_1 : - 002099263629 .. 00_48220018 , 16#0_080000000 : , ; END_PROGRAM") (refused 5 73) ∷
+    compilingIn (bytes " PROGRAM RETURN VAR K90 : BOOL ; _Z0_AXX0_Z0Z00Z_X_AZX0 : BOOL ; _ZX_AZ_0X_0ZAA_9Z_99_9 : BOOL := TRUE ; I : BOOL := TRUE ; END_VAR IF NOT ( NOT ( I <> K90 ) ) THEN K90 := K90 ; ; ; ; ; IF NOT TRUE THEN ; ; ELSIF NOT ( TRUE AND K90 ) THEN ELSE IF _Z0_AXX0_Z0Z00Z_X_AZX0 THEN _Z0_AXX0_Z0Z00Z_X_AZX0 := _ZX_AZ_0X_0ZAA_9Z_99_9 OR ( 16#3 = 6 ) ; _Z0_AXX0_Z0Z00Z_X_AZX0 := NOT K90 ; END_IF ; REPEAT ; EXIT ; UNTIL + ( 8 + 16#007 ) * ( 16#a ) < ( - 6 ) END_REPEAT ; ; _Z0_AXX0_Z0Z00Z_X_AZX0 := 2#100 = 8#13 ; ; END_IF ; ; ; I := _ZX_AZ_0X_0ZAA_9Z_99_9 ; _ZX_AZ_0X_0ZAA_9Z_99_9 := 16#0 + 3 / 8#2 < ( 0 + 16#1 * 1 ) MOD 4 / ( ") 35 (refused 5 618) ∷
     meaningAt 4062 (bytes "\tPROGRAM\u{c}Kx9Xa9XA9_A_X_Za0z_xZz (*  //  *)var\t(* (*)*) *)//\nqaa9a999:dint\n;\rEND_vaR;\nIF\t\r\rFALSE\t\t THEN\trePEAT\nUNTIL\u{c}\n(qaa9a999\u{c} +qAa9A999<> \t////x\rqaa9a999)END_REPEAT; ;;\n\u{c}(* *)if\n(* \" (*)*) *)\u{c}NOT\t(not(fALse\n\u{c}XOR\u{c}FALSE\n// (* \r))then if\n (QAA9A999\r//*)\r<=QAa9A999)\r \t=\u{c} (* (*)*) *)false\t\rTHEN\r \u{c}end_if;QAA9A999:=\t//\n\u{c}4\r;If\u{c}//x\r\tTRUE\r then;ELsE\r(* (*)*) /* *)(* (* *) (*(**)*) *)END_IF;\rEnd_If;ElSe\u{c}//x\u{c}\nEnD_IF;end_program") (pos 2147483646 ∷ []) 0 1 (pos 2147483646 ∷ []) ∷
     compiling (bytes "PROGRAM P VAR A:DINT; B:D") (refused 5 24) ∷
     compilingIn (bytes "PROGRAM\t_ZZXA\rVAR\tEND_VAR;;;END_PROGRAM\n\u{c} ") 4294967295 (accepted (0 ∷ 0 ∷ 1 ∷ 0 ∷ 1 ∷ 0 ∷ 2 ∷ 0 ∷ 29 ∷ 6 ∷ 0 ∷ 3 ∷ 0 ∷ 0 ∷ 0 ∷ 0 ∷ 0 ∷ 0 ∷ 0 ∷ []) 1 0 0) ∷
@@ -937,14 +941,15 @@ cases8 =
     compiling (0 ∷ 5 ∷ 42 ∷ 143 ∷ 13 ∷ 179 ∷ 46 ∷ 40 ∷ 200 ∷ 90 ∷ 47 ∷ 9 ∷ 84 ∷ 50 ∷ 60 ∷ 69 ∷ 40 ∷ 173 ∷ 15 ∷ 35 ∷ 62 ∷ 48 ∷ 36 ∷ 255 ∷ 190 ∷ 59 ∷ 32 ∷ []) (refused 2 0) ∷
     image (20 ∷ 0 ∷ 1 ∷ 0 ∷ 2 ∷ 0 ∷ 0 ∷ 0 ∷ 0 ∷ 2 ∷ 0 ∷ 0 ∷ 0 ∷ 0 ∷ 2 ∷ 254 ∷ 255 ∷ 255 ∷ 127 ∷ 1 ∷ 1 ∷ 0 ∷ 0 ∷ 0 ∷ 9 ∷ 0 ∷ 2 ∷ 0 ∷ 1 ∷ 2 ∷ 0 ∷ 0 ∷ 0 ∷ 0 ∷ 4 ∷ 3 ∷ 29 ∷ 6 ∷ 0 ∷ 3 ∷ 0 ∷ 1 ∷ 0 ∷ 1 ∷ 0 ∷ 0 ∷ 0 ∷ []) (negsuc 0 ∷ negsuc 18 ∷ pos 0 ∷ pos 1 ∷ []) 53 (report 0 1 4 8 (negsuc 0 ∷ negsuc 18 ∷ pos 0 ∷ pos 0 ∷ [])) ∷
     compilingIn (bytes "PROGRAM P VAR A:DINT; B:DINT; C:DINT; I:DINT; X:BOOL; END_VAR\nFOR I:=1 TO 1+1*(1+1*(1+1*(1+1*(1+1*(1+1*(1+1*(1+1*(1+1*(1+1*(1+1*(1+1*(1+1*(1+1*(1+1*(1))))))))))))))) BY 0 DO END_FOR;\nEND_PROGRAM") 35 (refused 15 169) ∷
-    image (30 ∷ 0 ∷ 1 ∷ 0 ∷ 2 ∷ 0 ∷ 0 ∷ 0 ∷ 0 ∷ 2 ∷ 0 ∷ 0 ∷ 0 ∷ 0 ∷ 1 ∷ 0 ∷ 0 ∷ 0 ∷ 0 ∷ 2 ∷ 0 ∷ 0 ∷ 0 ∷ 0 ∷ 2 ∷ 255 ∷ 255 ∷ 255 ∷ 255 ∷ 2 ∷ 0 ∷ 0 ∷ 0 ∷ 0 ∷ 170 ∷ 1 ∷ 2 ∷ 0 ∷ 1 ∷ 3 ∷ 5 ∷ 3 ∷ 4 ∷ 8 ∷ 2 ∷ 0 ∷ 0 ∷ 1 ∷ 0 ∷ 9 ∷ 5 ∷ 4 ∷ 1 ∷ 1 ∷ 3 ∷ 2 ∷ 22 ∷ 21 ∷ 0 ∷ 1 ∷ 2 ∷ 11 ∷ 0 ∷ 0 ∷ 0 ∷ 3 ∷ 4 ∷ 3 ∷ 1 ∷ 3 ∷ 3 ∷ 11 ∷ 8 ∷ 5 ∷ 9 ∷ 4 ∷ 3 ∷ 1 ∷ 2 ∷ 0 ∷ 0 ∷ 0 ∷ 0 ∷ 23 ∷ 239 ∷ 255 ∷ 255 ∷ 255 ∷ 239 ∷ 255 ∷ 255 ∷ 255 ∷ 24 ∷ 84 ∷ 0 ∷ 23 ∷ 255 ∷ 255 ∷ 255 ∷ 255 ∷ 0 ∷ 0 ∷ 0 ∷ 0 ∷ 24 ∷ 84 ∷ 0 ∷ 23 ∷ 1 ∷ 0 ∷ 0 ∷ 0 ∷ 1 ∷ 0 ∷ 0 ∷ 0 ∷ 24 ∷ 84 ∷ 0 ∷ 21 ∷ 88 ∷ 0 ∷ 25 ∷ 21 ∷ 169 ∷ 1 ∷ 23 ∷ 19 ∷ 53 ∷ 13 ∷ 17 ∷ 19 ∷ 53 ∷ 13 ∷ 17 ∷ 24 ∷ 103 ∷ 0 ∷ 21 ∷ 107 ∷ 0 ∷ 25 ∷ 21 ∷ 169 ∷ 1 ∷ 23 ∷ 1 ∷ 0 ∷ 0 ∷ 0 ∷ 6 ∷ 0 ∷ 0 ∷ 0 ∷ 24 ∷ 170 ∷ 0 ∷ 23 ∷ 17 ∷ 0 ∷ 0 ∷ 0 ∷ 17 ∷ 0 ∷ 0 ∷ 0 ∷ 24 ∷ 170 ∷ 0 ∷ 23 ∷ 16 ∷ 0 ∷ 0 ∷ 0 ∷ 16 ∷ 0 ∷ 0 ∷ 0 ∷ 24 ∷ 170 ∷ 0 ∷ 23 ∷ 1 ∷ 0 ∷ 0 ∷ 0 ∷ 1 ∷ 0 ∷ 0 ∷ 0 ∷ 24 ∷ 170 ∷ 0 ∷ 23 ∷ 1 ∷ 0 ∷ 0 ∷ 0 ∷ 1 ∷ 0 ∷ 0 ∷ 0 ∷ 24 ∷ 170 ∷ 0 ∷ 21 ∷ 149 ∷ 1 ∷ 25 ∷ 1 ∷ 2 ∷ 2 ∷ 0 ∷ 0 ∷ 0 ∷ 2 ∷ 2 ∷ 0 ∷ 0 ∷ 0 ∷ 26 ∷ 0 ∷ 4 ∷ 1 ∷ 27 ∷ 0 ∷ 1 ∷ 255 ∷ 255 ∷ 255 ∷ 255 ∷ 205 ∷ 0 ∷ 1 ∷ 28 ∷ 0 ∷ 1 ∷ 255 ∷ 255 ∷ 255 ∷ 255 ∷ 195 ∷ 0 ∷ 1 ∷ 3 ∷ 2 ∷ 4 ∷ 2 ∷ 1 ∷ 3 ∷ 4 ∷ 3 ∷ 3 ∷ 9 ∷ 3 ∷ 3 ∷ 11 ∷ 23 ∷ 255 ∷ 255 ∷ 255 ∷ 255 ∷ 255 ∷ 255 ∷ 255 ∷ 255 ∷ 24 ∷ 2 ∷ 1 ∷ 23 ∷ 0 ∷ 0 ∷ 0 ∷ 0 ∷ 5 ∷ 0 ∷ 0 ∷ 0 ∷ 24 ∷ 2 ∷ 1 ∷ 23 ∷ 28 ∷ 58 ∷ 54 ∷ 40 ∷ 28 ∷ 58 ∷ 54 ∷ 40 ∷ 24 ∷ 2 ∷ 1 ∷ 21 ∷ 56 ∷ 1 ∷ 25 ∷ 1 ∷ 3 ∷ 5 ∷ 2 ∷ 2 ∷ 0 ∷ 0 ∷ 0 ∷ 10 ∷ 4 ∷ 5 ∷ 1 ∷ 3 ∷ 4 ∷ 4 ∷ 3 ∷ 1 ∷ 2 ∷ 2 ∷ 0 ∷ 0 ∷ 0 ∷ 2 ∷ 0 ∷ 0 ∷ 0 ∷ 0 ∷ 26 ∷ 0 ∷ 4 ∷ 3 ∷ 27 ∷ 0 ∷ 3 ∷ 1 ∷ 0 ∷ 0 ∷ 0 ∷ 53 ∷ 1 ∷ 1 ∷ 28 ∷ 0 ∷ 3 ∷ 1 ∷ 0 ∷ 0 ∷ 0 ∷ 43 ∷ 1 ∷ 21 ∷ 146 ∷ 1 ∷ 23 ∷ 255 ∷ 255 ∷ 255 ∷ 127 ∷ 255 ∷ 255 ∷ 255 ∷ 127 ∷ 24 ∷ 71 ∷ 1 ∷ 21 ∷ 145 ∷ 1 ∷ 25 ∷ 1 ∷ 3 ∷ 5 ∷ 2 ∷ 6 ∷ 0 ∷ 0 ∷ 0 ∷ 9 ∷ 3 ∷ 5 ∷ 8 ∷ 3 ∷ 4 ∷ 3 ∷ 5 ∷ 3 ∷ 1 ∷ 11 ∷ 9 ∷ 5 ∷ 2 ∷ 9 ∷ 0 ∷ 0 ∷ 0 ∷ 3 ∷ 0 ∷ 3 ∷ 1 ∷ 8 ∷ 8 ∷ 3 ∷ 1 ∷ 10 ∷ 11 ∷ 2 ∷ 5 ∷ 0 ∷ 0 ∷ 0 ∷ 11 ∷ 3 ∷ 3 ∷ 2 ∷ 5 ∷ 0 ∷ 0 ∷ 0 ∷ 10 ∷ 5 ∷ 2 ∷ 10 ∷ 0 ∷ 0 ∷ 0 ∷ 2 ∷ 0 ∷ 0 ∷ 0 ∷ 0 ∷ 7 ∷ 3 ∷ 4 ∷ 8 ∷ 8 ∷ 9 ∷ 12 ∷ 4 ∷ 2 ∷ 21 ∷ 146 ∷ 1 ∷ 25 ∷ 21 ∷ 169 ∷ 1 ∷ 23 ∷ 254 ∷ 255 ∷ 255 ∷ 127 ∷ 254 ∷ 255 ∷ 255 ∷ 127 ∷ 24 ∷ 164 ∷ 1 ∷ 21 ∷ 168 ∷ 1 ∷ 25 ∷ 21 ∷ 169 ∷ 1 ∷ 25 ∷ 29 ∷ 6 ∷ 0 ∷ 3 ∷ 0 ∷ 5 ∷ 0 ∷ 255 ∷ 255 ∷ 255 ∷ 255 ∷ []) (pos 1 ∷ negsuc 593706999 ∷ pos 0 ∷ negsuc 4 ∷ pos 10 ∷ pos 2147483647 ∷ []) 296 (report 22 3 19 36 (pos 1 ∷ negsuc 52427 ∷ pos 0 ∷ negsuc 4 ∷ pos 10 ∷ pos 2147483647 ∷ [])) ∷
-    compiling (bytes "\u{c}(* \" (*)*) *)PROGRAM\r\rq0X9a_AxxX0XzAA \t(* *)var\t\tA:DInt\u{c} \u{c};\u{c}\tRETURN: dint:=\n\u{c}\r-2147483648;QZ_0Z0_ZAXX9A9XA9:\r\n\tdInt\t;i:DINT;b :\r(* *)\u{c}bool;\r\tENd_var\u{c}\u{c}b:=B\n//\n;eNd_PROgram") (accepted (25 ∷ 0 ∷ 1 ∷ 0 ∷ 2 ∷ 0 ∷ 0 ∷ 0 ∷ 0 ∷ 2 ∷ 0 ∷ 0 ∷ 0 ∷ 128 ∷ 2 ∷ 0 ∷ 0 ∷ 0 ∷ 0 ∷ 2 ∷ 0 ∷ 0 ∷ 0 ∷ 0 ∷ 1 ∷ 0 ∷ 0 ∷ 0 ∷ 0 ∷ 6 ∷ 0 ∷ 2 ∷ 0 ∷ 1 ∷ 3 ∷ 4 ∷ 4 ∷ 4 ∷ 29 ∷ 6 ∷ 0 ∷ 3 ∷ 0 ∷ 1 ∷ 0 ∷ 1 ∷ 0 ∷ 0 ∷ 0 ∷ []) 6 1 1) ∷
-    meaningAt 0 (bytes " PROGRAM KAA_A9Z_A_ZZ9 VAR RETURN : DINT ; KZZ_ZA9Z_AAXZA90_0Z : DINT := - 156_8360729 ; _1 : DINT ; END : DINT := - 2#10100000101_0_1001010_010011110 ; LF : DINT := 15 ; END_VAR END_PROGRAM\r\u{c}\u{c}") (pos 1 ∷ pos 1 ∷ pos 0 ∷ pos 1 ∷ pos 17 ∷ []) 0 0 (pos 1 ∷ pos 1 ∷ pos 0 ∷ pos 1 ∷ pos 17 ∷ []) ∷
-    image (35 ∷ 0 ∷ 1 ∷ 5 ∷ 2 ∷ 254 ∷ 255 ∷ 255 ∷ 127 ∷ 2 ∷ 0 ∷ 0 ∷ 0 ∷ 0 ∷ 1 ∷ 0 ∷ 0 ∷ 0 ∷ 0 ∷ 2 ∷ 1 ∷ 0 ∷ 0 ∷ 0 ∷ 2 ∷ 0 ∷ 0 ∷ 0 ∷ 0 ∷ 1 ∷ 0 ∷ 0 ∷ 0 ∷ 0 ∷ 2 ∷ 255 ∷ 255 ∷ 255 ∷ 255 ∷ 29 ∷ 0 ∷ 2 ∷ 0 ∷ 1 ∷ 3 ∷ 4 ∷ 3 ∷ 3 ∷ 26 ∷ 0 ∷ 4 ∷ 0 ∷ 27 ∷ 0 ∷ 0 ∷ 1 ∷ 0 ∷ 0 ∷ 0 ∷ 28 ∷ 0 ∷ 1 ∷ 28 ∷ 0 ∷ 0 ∷ 1 ∷ 0 ∷ 0 ∷ 0 ∷ 18 ∷ 0 ∷ 29 ∷ 6 ∷ 0 ∷ 3 ∷ 0 ∷ 2 ∷ 0 ∷ 255 ∷ 255 ∷ 255 ∷ 255 ∷ []) [] 763 (report 23 0 0 0 []) ∷
     []
 
 cases9 : List Case
 cases9 =
+    compilingIn (bytes "PROGRAM\u{c}Q_0\tVAR LF:BOOL;B:BOOL;A:BOOL:=FALSE;INT:DINT;Q0X:BOOL;END_VAR\nA:=A;IF+(\r-INT)=INT+5\rTHEN IF\tFALSE\nTHEN\u{c}ELSIF\tB\tTHEN\rWHILE\nA&B\u{c}DO INT:=INT-1;FOR\u{c}INT:=8#3 TO\r16#3 BY 2\u{c}DO\rREPEAT\u{c}UNTIL LF\u{c}XOR\rINT=\n-((INT)*(\r-1)+(INT\tMOD\r9))+16#10000/INT\u{c}END_REPEAT;;EXIT;REPEAT A:=B;UNTIL\nB\nEND_REPEAT;;IF\u{c}FALSE\u{c}THEN;;;;ELSIF\rLF\u{c}THEN ELSIF(( +INT)MOD\rINT)MOD(INT\tMOD\u{c}INT*(INT*INT)-2#110*16#0)MOD INT* -( -INT)MOD(\t-(INT+\u{c}-8)/(INT-8#3))>=INT*(8#00200000/INT)+8#0<>(Q0X)THEN;;;;Q0X:=LF;;IF 6<>INT\nMOD 8#5*(INT+INT)THEN;;;ELSE;IF\u{c}INT-INT>\u{c}-INT\nTHEN\rEXIT;END_IF;;WHILE LF\nDO\u{c}Q0X:=B;;;;;END_WHILE;;END_IF;;REPEAT CASE\nINT OF-2#1,0,-2147483648..\n-2147483643:LF:=FALSE;;B:=NOT(LF\nOR\u{c}FALSE&Q0X);EXIT;EXIT;EXIT;;Q0X:=(8#4)>=INT;-1,-18:ELSE\rEND_CASE;UNTIL\u{c}NOT(INT<>INT)END_REPEAT;END_IF;END_FOR;END_WHILE;END_IF;ELSE\u{c}END_IF;END_PROGRAM") 492 (refused 14 814) ∷
+    image (30 ∷ 0 ∷ 1 ∷ 0 ∷ 2 ∷ 0 ∷ 0 ∷ 0 ∷ 0 ∷ 2 ∷ 0 ∷ 0 ∷ 0 ∷ 0 ∷ 1 ∷ 0 ∷ 0 ∷ 0 ∷ 0 ∷ 2 ∷ 0 ∷ 0 ∷ 0 ∷ 0 ∷ 2 ∷ 255 ∷ 255 ∷ 255 ∷ 255 ∷ 2 ∷ 0 ∷ 0 ∷ 0 ∷ 0 ∷ 170 ∷ 1 ∷ 2 ∷ 0 ∷ 1 ∷ 3 ∷ 5 ∷ 3 ∷ 4 ∷ 8 ∷ 2 ∷ 0 ∷ 0 ∷ 1 ∷ 0 ∷ 9 ∷ 5 ∷ 4 ∷ 1 ∷ 1 ∷ 3 ∷ 2 ∷ 22 ∷ 21 ∷ 0 ∷ 1 ∷ 2 ∷ 11 ∷ 0 ∷ 0 ∷ 0 ∷ 3 ∷ 4 ∷ 3 ∷ 1 ∷ 3 ∷ 3 ∷ 11 ∷ 8 ∷ 5 ∷ 9 ∷ 4 ∷ 3 ∷ 1 ∷ 2 ∷ 0 ∷ 0 ∷ 0 ∷ 0 ∷ 23 ∷ 239 ∷ 255 ∷ 255 ∷ 255 ∷ 239 ∷ 255 ∷ 255 ∷ 255 ∷ 24 ∷ 84 ∷ 0 ∷ 23 ∷ 255 ∷ 255 ∷ 255 ∷ 255 ∷ 0 ∷ 0 ∷ 0 ∷ 0 ∷ 24 ∷ 84 ∷ 0 ∷ 23 ∷ 1 ∷ 0 ∷ 0 ∷ 0 ∷ 1 ∷ 0 ∷ 0 ∷ 0 ∷ 24 ∷ 84 ∷ 0 ∷ 21 ∷ 88 ∷ 0 ∷ 25 ∷ 21 ∷ 169 ∷ 1 ∷ 23 ∷ 19 ∷ 53 ∷ 13 ∷ 17 ∷ 19 ∷ 53 ∷ 13 ∷ 17 ∷ 24 ∷ 103 ∷ 0 ∷ 21 ∷ 107 ∷ 0 ∷ 25 ∷ 21 ∷ 169 ∷ 1 ∷ 23 ∷ 1 ∷ 0 ∷ 0 ∷ 0 ∷ 6 ∷ 0 ∷ 0 ∷ 0 ∷ 24 ∷ 170 ∷ 0 ∷ 23 ∷ 17 ∷ 0 ∷ 0 ∷ 0 ∷ 17 ∷ 0 ∷ 0 ∷ 0 ∷ 24 ∷ 170 ∷ 0 ∷ 23 ∷ 16 ∷ 0 ∷ 0 ∷ 0 ∷ 16 ∷ 0 ∷ 0 ∷ 0 ∷ 24 ∷ 170 ∷ 0 ∷ 23 ∷ 1 ∷ 0 ∷ 0 ∷ 0 ∷ 1 ∷ 0 ∷ 0 ∷ 0 ∷ 24 ∷ 170 ∷ 0 ∷ 23 ∷ 1 ∷ 0 ∷ 0 ∷ 0 ∷ 1 ∷ 0 ∷ 0 ∷ 0 ∷ 24 ∷ 170 ∷ 0 ∷ 21 ∷ 149 ∷ 1 ∷ 25 ∷ 1 ∷ 2 ∷ 2 ∷ 0 ∷ 0 ∷ 0 ∷ 2 ∷ 2 ∷ 0 ∷ 0 ∷ 0 ∷ 26 ∷ 0 ∷ 4 ∷ 1 ∷ 27 ∷ 0 ∷ 1 ∷ 255 ∷ 255 ∷ 255 ∷ 255 ∷ 205 ∷ 0 ∷ 1 ∷ 28 ∷ 0 ∷ 1 ∷ 255 ∷ 255 ∷ 255 ∷ 255 ∷ 195 ∷ 0 ∷ 1 ∷ 3 ∷ 2 ∷ 4 ∷ 2 ∷ 1 ∷ 3 ∷ 4 ∷ 3 ∷ 3 ∷ 9 ∷ 3 ∷ 3 ∷ 11 ∷ 23 ∷ 255 ∷ 255 ∷ 255 ∷ 255 ∷ 255 ∷ 255 ∷ 255 ∷ 255 ∷ 24 ∷ 2 ∷ 1 ∷ 23 ∷ 0 ∷ 0 ∷ 0 ∷ 0 ∷ 5 ∷ 0 ∷ 0 ∷ 0 ∷ 24 ∷ 2 ∷ 1 ∷ 23 ∷ 28 ∷ 58 ∷ 54 ∷ 40 ∷ 28 ∷ 58 ∷ 54 ∷ 40 ∷ 24 ∷ 2 ∷ 1 ∷ 21 ∷ 56 ∷ 1 ∷ 25 ∷ 1 ∷ 3 ∷ 5 ∷ 2 ∷ 2 ∷ 0 ∷ 0 ∷ 0 ∷ 10 ∷ 4 ∷ 5 ∷ 1 ∷ 3 ∷ 4 ∷ 4 ∷ 3 ∷ 1 ∷ 2 ∷ 2 ∷ 0 ∷ 0 ∷ 0 ∷ 2 ∷ 0 ∷ 0 ∷ 0 ∷ 0 ∷ 26 ∷ 0 ∷ 4 ∷ 3 ∷ 27 ∷ 0 ∷ 3 ∷ 1 ∷ 0 ∷ 0 ∷ 0 ∷ 53 ∷ 1 ∷ 1 ∷ 28 ∷ 0 ∷ 3 ∷ 1 ∷ 0 ∷ 0 ∷ 0 ∷ 43 ∷ 1 ∷ 21 ∷ 146 ∷ 1 ∷ 23 ∷ 255 ∷ 255 ∷ 255 ∷ 127 ∷ 255 ∷ 255 ∷ 255 ∷ 127 ∷ 24 ∷ 71 ∷ 1 ∷ 21 ∷ 145 ∷ 1 ∷ 25 ∷ 1 ∷ 3 ∷ 5 ∷ 2 ∷ 6 ∷ 0 ∷ 0 ∷ 0 ∷ 9 ∷ 3 ∷ 5 ∷ 8 ∷ 3 ∷ 4 ∷ 3 ∷ 5 ∷ 3 ∷ 1 ∷ 11 ∷ 9 ∷ 5 ∷ 2 ∷ 9 ∷ 0 ∷ 0 ∷ 0 ∷ 3 ∷ 0 ∷ 3 ∷ 1 ∷ 8 ∷ 8 ∷ 3 ∷ 1 ∷ 10 ∷ 11 ∷ 2 ∷ 5 ∷ 0 ∷ 0 ∷ 0 ∷ 11 ∷ 3 ∷ 3 ∷ 2 ∷ 5 ∷ 0 ∷ 0 ∷ 0 ∷ 10 ∷ 5 ∷ 2 ∷ 10 ∷ 0 ∷ 0 ∷ 0 ∷ 2 ∷ 0 ∷ 0 ∷ 0 ∷ 0 ∷ 7 ∷ 3 ∷ 4 ∷ 8 ∷ 8 ∷ 9 ∷ 12 ∷ 4 ∷ 2 ∷ 21 ∷ 146 ∷ 1 ∷ 25 ∷ 21 ∷ 169 ∷ 1 ∷ 23 ∷ 254 ∷ 255 ∷ 255 ∷ 127 ∷ 254 ∷ 255 ∷ 255 ∷ 127 ∷ 24 ∷ 164 ∷ 1 ∷ 21 ∷ 168 ∷ 1 ∷ 25 ∷ 21 ∷ 169 ∷ 1 ∷ 25 ∷ 29 ∷ 6 ∷ 0 ∷ 3 ∷ 0 ∷ 5 ∷ 0 ∷ 255 ∷ 255 ∷ 255 ∷ 255 ∷ []) (pos 1 ∷ negsuc 593706999 ∷ pos 0 ∷ negsuc 4 ∷ pos 10 ∷ pos 2147483647 ∷ []) 296 (report 22 3 19 36 (pos 1 ∷ negsuc 52427 ∷ pos 0 ∷ negsuc 4 ∷ pos 10 ∷ pos 2147483647 ∷ [])) ∷
+    compiling (bytes "\u{c}(* \" (*)*) *)PROGRAM\r\rq0X9a_AxxX0XzAA \t(* *)var\t\tA:DInt\u{c} \u{c};\u{c}\tRETURN: dint:=\n\u{c}\r-2147483648;QZ_0Z0_ZAXX9A9XA9:\r\n\tdInt\t;i:DINT;b :\r(* *)\u{c}bool;\r\tENd_var\u{c}\u{c}b:=B\n//\n;eNd_PROgram") (accepted (25 ∷ 0 ∷ 1 ∷ 0 ∷ 2 ∷ 0 ∷ 0 ∷ 0 ∷ 0 ∷ 2 ∷ 0 ∷ 0 ∷ 0 ∷ 128 ∷ 2 ∷ 0 ∷ 0 ∷ 0 ∷ 0 ∷ 2 ∷ 0 ∷ 0 ∷ 0 ∷ 0 ∷ 1 ∷ 0 ∷ 0 ∷ 0 ∷ 0 ∷ 6 ∷ 0 ∷ 2 ∷ 0 ∷ 1 ∷ 3 ∷ 4 ∷ 4 ∷ 4 ∷ 29 ∷ 6 ∷ 0 ∷ 3 ∷ 0 ∷ 1 ∷ 0 ∷ 1 ∷ 0 ∷ 0 ∷ 0 ∷ []) 6 1 1) ∷
+    meaningAt 0 (bytes " PROGRAM KAA_A9Z_A_ZZ9 VAR RETURN : DINT ; KZZ_ZA9Z_AAXZA90_0Z : DINT := - 156_8360729 ; _1 : DINT ; END : DINT := - 2#10100000101_0_1001010_010011110 ; LF : DINT := 15 ; END_VAR END_PROGRAM\r\u{c}\u{c}") (pos 1 ∷ pos 1 ∷ pos 0 ∷ pos 1 ∷ pos 17 ∷ []) 0 0 (pos 1 ∷ pos 1 ∷ pos 0 ∷ pos 1 ∷ pos 17 ∷ []) ∷
+    image (35 ∷ 0 ∷ 1 ∷ 5 ∷ 2 ∷ 254 ∷ 255 ∷ 255 ∷ 127 ∷ 2 ∷ 0 ∷ 0 ∷ 0 ∷ 0 ∷ 1 ∷ 0 ∷ 0 ∷ 0 ∷ 0 ∷ 2 ∷ 1 ∷ 0 ∷ 0 ∷ 0 ∷ 2 ∷ 0 ∷ 0 ∷ 0 ∷ 0 ∷ 1 ∷ 0 ∷ 0 ∷ 0 ∷ 0 ∷ 2 ∷ 255 ∷ 255 ∷ 255 ∷ 255 ∷ 29 ∷ 0 ∷ 2 ∷ 0 ∷ 1 ∷ 3 ∷ 4 ∷ 3 ∷ 3 ∷ 26 ∷ 0 ∷ 4 ∷ 0 ∷ 27 ∷ 0 ∷ 0 ∷ 1 ∷ 0 ∷ 0 ∷ 0 ∷ 28 ∷ 0 ∷ 1 ∷ 28 ∷ 0 ∷ 0 ∷ 1 ∷ 0 ∷ 0 ∷ 0 ∷ 18 ∷ 0 ∷ 29 ∷ 6 ∷ 0 ∷ 3 ∷ 0 ∷ 2 ∷ 0 ∷ 255 ∷ 255 ∷ 255 ∷ 255 ∷ []) [] 763 (report 23 0 0 0 []) ∷
     meaningAt 19 (bytes "PROGRAM END\u{c}VAR\rA:DINT:= -2#101;K9A_XXXAX0_9:DINT;END:DINT;QAZ90AXAAX_0X_90Z:DINT;_1:BOOL;LF:DINT:=\n-16#1;END_VAR\n_1:=NOT(TRUE\u{c}OR\nNOT\u{c}_1);_1:=(NOT(_1&(NOT((NOT(END/END=K9A_XXXAX0_9/8#2*K9A_XXXAX0_9))=NOT\t_1))))=(A>QAZ90AXAAX_0X_90Z&16#001>LF\u{c}OR\nNOT(2147483647+END>LF&2#0010<>(A)));A:=8#4-(K9A_XXXAX0_9+END);A:=A+1;LF:=LF+1;END_PROGRAM") (negsuc 15 ∷ pos 15 ∷ pos 12 ∷ negsuc 8 ∷ pos 0 ∷ negsuc 67074828 ∷ []) 21 2 (negsuc 15 ∷ pos 15 ∷ pos 12 ∷ negsuc 8 ∷ pos 0 ∷ negsuc 67074828 ∷ []) ∷
     compiling (bytes "PROGRAM\rEND\rVAR\rK_9_AAX_9_0XZA000_9_A:DINT;RETURN:DINT:=2;_ZA_AZ0XA_AXZA_X90_X_90:DINT:=\t-8#0013;END_VAR END_PROGRAM") (accepted (15 ∷ 0 ∷ 1 ∷ 0 ∷ 2 ∷ 0 ∷ 0 ∷ 0 ∷ 0 ∷ 2 ∷ 2 ∷ 0 ∷ 0 ∷ 0 ∷ 2 ∷ 245 ∷ 255 ∷ 255 ∷ 255 ∷ 1 ∷ 0 ∷ 2 ∷ 0 ∷ 29 ∷ 6 ∷ 0 ∷ 3 ∷ 0 ∷ 0 ∷ 0 ∷ 0 ∷ 0 ∷ 0 ∷ 0 ∷ []) 1 0 0) ∷
     compiling (bytes "PROGRAM P VAR V0:DINT;V1:DINT;V2:DINT;V3:DINT;V4:DINT;V5:DINT;V6:DINT;V7:DINT;V8:DINT; END_VAR FOR V1:=1 TO 1 DO FOR V2:=1 TO 1 DO FOR V3:=1 TO 0 DO FOR V4:=1 TO V0 DO FOR V5:=1 TO V0 DO REPEAT FOR V6:=1 TO 1 DO FOR V7:=1 TO 0 DO REPEAT FOR V8:=1 TO 2 DO REPEAT V0:=V0+1; UNTIL TRUE END_REPEAT; END_FOR; UNTIL TRUE END_REPEAT; END_FOR; END_FOR; UNTIL TRUE END_REPEAT; END_FOR; END_FOR; END_FOR; END_FOR; END_FOR; END_PROGRAM") (accepted (45 ∷ 0 ∷ 1 ∷ 0 ∷ 2 ∷ 0 ∷ 0 ∷ 0 ∷ 0 ∷ 2 ∷ 0 ∷ 0 ∷ 0 ∷ 0 ∷ 2 ∷ 0 ∷ 0 ∷ 0 ∷ 0 ∷ 2 ∷ 0 ∷ 0 ∷ 0 ∷ 0 ∷ 2 ∷ 0 ∷ 0 ∷ 0 ∷ 0 ∷ 2 ∷ 0 ∷ 0 ∷ 0 ∷ 0 ∷ 2 ∷ 0 ∷ 0 ∷ 0 ∷ 0 ∷ 2 ∷ 0 ∷ 0 ∷ 0 ∷ 0 ∷ 2 ∷ 0 ∷ 0 ∷ 0 ∷ 0 ∷ 49 ∷ 1 ∷ 2 ∷ 0 ∷ 1 ∷ 2 ∷ 1 ∷ 0 ∷ 0 ∷ 0 ∷ 2 ∷ 1 ∷ 0 ∷ 0 ∷ 0 ∷ 26 ∷ 0 ∷ 4 ∷ 1 ∷ 27 ∷ 0 ∷ 1 ∷ 1 ∷ 0 ∷ 0 ∷ 0 ∷ 48 ∷ 1 ∷ 1 ∷ 1 ∷ 2 ∷ 1 ∷ 0 ∷ 0 ∷ 0 ∷ 2 ∷ 1 ∷ 0 ∷ 0 ∷ 0 ∷ 26 ∷ 1 ∷ 4 ∷ 2 ∷ 27 ∷ 1 ∷ 2 ∷ 1 ∷ 0 ∷ 0 ∷ 0 ∷ 39 ∷ 1 ∷ 1 ∷ 1 ∷ 2 ∷ 1 ∷ 0 ∷ 0 ∷ 0 ∷ 2 ∷ 0 ∷ 0 ∷ 0 ∷ 0 ∷ 26 ∷ 2 ∷ 4 ∷ 3 ∷ 27 ∷ 2 ∷ 3 ∷ 1 ∷ 0 ∷ 0 ∷ 0 ∷ 30 ∷ 1 ∷ 1 ∷ 1 ∷ 2 ∷ 1 ∷ 0 ∷ 0 ∷ 0 ∷ 3 ∷ 0 ∷ 26 ∷ 3 ∷ 4 ∷ 4 ∷ 27 ∷ 3 ∷ 4 ∷ 1 ∷ 0 ∷ 0 ∷ 0 ∷ 21 ∷ 1 ∷ 1 ∷ 1 ∷ 2 ∷ 1 ∷ 0 ∷ 0 ∷ 0 ∷ 3 ∷ 0 ∷ 26 ∷ 4 ∷ 4 ∷ 5 ∷ 27 ∷ 4 ∷ 5 ∷ 1 ∷ 0 ∷ 0 ∷ 0 ∷ 12 ∷ 1 ∷ 1 ∷ 1 ∷ 1 ∷ 2 ∷ 1 ∷ 0 ∷ 0 ∷ 0 ∷ 2 ∷ 1 ∷ 0 ∷ 0 ∷ 0 ∷ 26 ∷ 5 ∷ 4 ∷ 6 ∷ 27 ∷ 5 ∷ 6 ∷ 1 ∷ 0 ∷ 0 ∷ 0 ∷ 251 ∷ 0 ∷ 1 ∷ 1 ∷ 2 ∷ 1 ∷ 0 ∷ 0 ∷ 0 ∷ 2 ∷ 0 ∷ 0 ∷ 0 ∷ 0 ∷ 26 ∷ 6 ∷ 4 ∷ 7 ∷ 27 ∷ 6 ∷ 7 ∷ 1 ∷ 0 ∷ 0 ∷ 0 ∷ 242 ∷ 0 ∷ 1 ∷ 1 ∷ 1 ∷ 2 ∷ 1 ∷ 0 ∷ 0 ∷ 0 ∷ 2 ∷ 2 ∷ 0 ∷ 0 ∷ 0 ∷ 26 ∷ 7 ∷ 4 ∷ 8 ∷ 27 ∷ 7 ∷ 8 ∷ 1 ∷ 0 ∷ 0 ∷ 0 ∷ 225 ∷ 0 ∷ 1 ∷ 1 ∷ 1 ∷ 3 ∷ 0 ∷ 2 ∷ 1 ∷ 0 ∷ 0 ∷ 0 ∷ 10 ∷ 4 ∷ 0 ∷ 2 ∷ 1 ∷ 0 ∷ 0 ∷ 0 ∷ 22 ∷ 196 ∷ 0 ∷ 28 ∷ 7 ∷ 8 ∷ 1 ∷ 0 ∷ 0 ∷ 0 ∷ 195 ∷ 0 ∷ 2 ∷ 1 ∷ 0 ∷ 0 ∷ 0 ∷ 22 ∷ 170 ∷ 0 ∷ 28 ∷ 6 ∷ 7 ∷ 1 ∷ 0 ∷ 0 ∷ 0 ∷ 169 ∷ 0 ∷ 28 ∷ 5 ∷ 6 ∷ 1 ∷ 0 ∷ 0 ∷ 0 ∷ 144 ∷ 0 ∷ 2 ∷ 1 ∷ 0 ∷ 0 ∷ 0 ∷ 22 ∷ 119 ∷ 0 ∷ 28 ∷ 4 ∷ 5 ∷ 1 ∷ 0 ∷ 0 ∷ 0 ∷ 118 ∷ 0 ∷ 28 ∷ 3 ∷ 4 ∷ 1 ∷ 0 ∷ 0 ∷ 0 ∷ 96 ∷ 0 ∷ 28 ∷ 2 ∷ 3 ∷ 1 ∷ 0 ∷ 0 ∷ 0 ∷ 74 ∷ 0 ∷ 28 ∷ 1 ∷ 2 ∷ 1 ∷ 0 ∷ 0 ∷ 0 ∷ 49 ∷ 0 ∷ 28 ∷ 0 ∷ 1 ∷ 1 ∷ 0 ∷ 0 ∷ 0 ∷ 24 ∷ 0 ∷ 29 ∷ 6 ∷ 0 ∷ 3 ∷ 0 ∷ 2 ∷ 0 ∷ 255 ∷ 255 ∷ 255 ∷ 255 ∷ []) 305 2 4294967295) ∷
@@ -1040,15 +1045,15 @@ cases9 =
     compilingIn (bytes "PROGRAM P VAR A:DINT:=2147483649; END_VAR END_PROGRAM") 8530 (refused 4 22) ∷
     image (15 ∷ 0 ∷ 1 ∷ 0 ∷ 2 ∷ 0 ∷ 0 ∷ 0 ∷ 0 ∷ 2 ∷ 0 ∷ 0 ∷ 0 ∷ 0 ∷ 2 ∷ 0 ∷ 0 ∷ 0 ∷ 0 ∷ 212 ∷ 0 ∷ 2 ∷ 0 ∷ 1 ∷ 3 ∷ 0 ∷ 3 ∷ 1 ∷ 10 ∷ 4 ∷ 2 ∷ 1 ∷ 3 ∷ 2 ∷ 4 ∷ 2 ∷ 1 ∷ 3 ∷ 1 ∷ 2 ∷ 2 ∷ 0 ∷ 0 ∷ 0 ∷ 7 ∷ 4 ∷ 1 ∷ 1 ∷ 2 ∷ 1 ∷ 0 ∷ 0 ∷ 0 ∷ 2 ∷ 5 ∷ 181 ∷ 0 ∷ 0 ∷ 3 ∷ 2 ∷ 5 ∷ 11 ∷ 2 ∷ 9 ∷ 0 ∷ 0 ∷ 0 ∷ 3 ∷ 1 ∷ 11 ∷ 9 ∷ 9 ∷ 3 ∷ 2 ∷ 2 ∷ 5 ∷ 0 ∷ 0 ∷ 0 ∷ 2 ∷ 6 ∷ 0 ∷ 0 ∷ 0 ∷ 7 ∷ 2 ∷ 0 ∷ 0 ∷ 0 ∷ 0 ∷ 7 ∷ 8 ∷ 2 ∷ 1 ∷ 0 ∷ 0 ∷ 0 ∷ 8 ∷ 16 ∷ 6 ∷ 22 ∷ 95 ∷ 0 ∷ 1 ∷ 2 ∷ 1 ∷ 0 ∷ 0 ∷ 0 ∷ 22 ∷ 92 ∷ 0 ∷ 21 ∷ 92 ∷ 0 ∷ 21 ∷ 95 ∷ 0 ∷ 1 ∷ 3 ∷ 0 ∷ 2 ∷ 0 ∷ 0 ∷ 0 ∷ 0 ∷ 7 ∷ 4 ∷ 0 ∷ 1 ∷ 3 ∷ 1 ∷ 2 ∷ 1 ∷ 0 ∷ 0 ∷ 0 ∷ 10 ∷ 4 ∷ 1 ∷ 1 ∷ 2 ∷ 5 ∷ 0 ∷ 0 ∷ 0 ∷ 2 ∷ 5 ∷ 0 ∷ 0 ∷ 0 ∷ 26 ∷ 0 ∷ 4 ∷ 1 ∷ 27 ∷ 0 ∷ 1 ∷ 1 ∷ 0 ∷ 0 ∷ 0 ∷ 211 ∷ 0 ∷ 1 ∷ 1 ∷ 21 ∷ 211 ∷ 0 ∷ 1 ∷ 21 ∷ 211 ∷ 0 ∷ 1 ∷ 2 ∷ 0 ∷ 0 ∷ 0 ∷ 0 ∷ 22 ∷ 202 ∷ 0 ∷ 1 ∷ 3 ∷ 0 ∷ 3 ∷ 1 ∷ 3 ∷ 0 ∷ 9 ∷ 11 ∷ 2 ∷ 0 ∷ 0 ∷ 0 ∷ 0 ∷ 10 ∷ 4 ∷ 2 ∷ 1 ∷ 2 ∷ 9 ∷ 0 ∷ 0 ∷ 0 ∷ 2 ∷ 6 ∷ 0 ∷ 0 ∷ 0 ∷ 11 ∷ 3 ∷ 1 ∷ 3 ∷ 1 ∷ 9 ∷ 3 ∷ 1 ∷ 8 ∷ 10 ∷ 4 ∷ 0 ∷ 21 ∷ 202 ∷ 0 ∷ 28 ∷ 0 ∷ 1 ∷ 1 ∷ 0 ∷ 0 ∷ 0 ∷ 141 ∷ 0 ∷ 29 ∷ 6 ∷ 0 ∷ 3 ∷ 0 ∷ 4 ∷ 0 ∷ 14 ∷ 0 ∷ 0 ∷ 0 ∷ []) (pos 19 ∷ negsuc 0 ∷ negsuc 0 ∷ []) 13 (report 22 4 30 68 (pos 19 ∷ negsuc 1 ∷ pos 18 ∷ [])) ∷
     meaningAt 4268 (bytes " \r\tPRoGRAM return\r\t\u{c}VAR\u{c}\t_1:BOOL;\u{c}\t\u{c}Lf: (* *)dInt;end_var\u{c}\t_1\t\u{c}\t:=((\n// (* //\r\t+(\u{c}-(10\t\n\n+\n\tlf\t*(16#0-Lf\n\u{c})))\n(* *))*\u{c}\n ((\n//\r(* *)-lf)\r\t * \t// (* \u{c}+lf)\t//END_PROGRAM;\r\n)<=  (* (*)*) *)-\t \n(  + \r(5\t\n(* /* *)MOD\u{c}\n(* 1..5 :=  *)(\t\r 1/LF))/\r(* /* *)(\n-(lf-lf\t))\n\t);END_PROGRAM\t (* \" /* *)") (pos 0 ∷ pos 5 ∷ []) 22 1 (pos 0 ∷ pos 5 ∷ []) ∷
+    []
+
+cases10 : List Case
+cases10 =
     image (10 ∷ 0 ∷ 1 ∷ 0 ∷ 1 ∷ 0 ∷ 0 ∷ 0 ∷ 0 ∷ 1 ∷ 0 ∷ 0 ∷ 0 ∷ 0 ∷ 26 ∷ 0 ∷ 2 ∷ 0 ∷ 1 ∷ 2 ∷ 0 ∷ 0 ∷ 0 ∷ 0 ∷ 3 ∷ 0 ∷ 16 ∷ 6 ∷ 4 ∷ 0 ∷ 1 ∷ 3 ∷ 1 ∷ 6 ∷ 3 ∷ 1 ∷ 3 ∷ 1 ∷ 17 ∷ 18 ∷ 22 ∷ 12 ∷ 0 ∷ 29 ∷ 6 ∷ 0 ∷ 3 ∷ 0 ∷ 3 ∷ 0 ∷ 255 ∷ 255 ∷ 255 ∷ 255 ∷ []) (pos 1 ∷ pos 1 ∷ []) 8 (report 20 8 62 12 (pos 1 ∷ pos 1 ∷ [])) ∷
     meaningAt 3116 (bytes "prOGrAM\t\ra\r(* /* *)\u{c}VAR\n_z090a: BOol\r(* *)\n;END\u{c}\r\t:dInt;LF\t\u{c}\u{c}:boOl;i:bool;_1: BOOL;\tA:\t\tdInT:=\n\u{c}\n-1;QZ9_90ZXXAZAA_X90Z0: DINT;end_var\t\u{c}(* (*)*) *)qz9_90zxxazaa_x90z0\n\n\u{c}:=\r\nqz9_90zxxazaa_x90z0;\t;\r(*  //  *)(* (*(**)*) *)a:=2#101; A:=\u{c}\nA\t\n(*  //  *);\t\tend_program") (pos 0 ∷ negsuc 0 ∷ pos 1 ∷ pos 1 ∷ pos 1 ∷ negsuc 13 ∷ pos 3 ∷ []) 0 3 (pos 0 ∷ negsuc 0 ∷ pos 1 ∷ pos 1 ∷ pos 1 ∷ pos 5 ∷ pos 3 ∷ []) ∷
     image (15 ∷ 0 ∷ 1 ∷ 0 ∷ 1 ∷ 0 ∷ 0 ∷ 0 ∷ 0 ∷ 1 ∷ 0 ∷ 0 ∷ 0 ∷ 0 ∷ 1 ∷ 0 ∷ 0 ∷ 0 ∷ 0 ∷ 123 ∷ 0 ∷ 2 ∷ 0 ∷ 1 ∷ 2 ∷ 1 ∷ 0 ∷ 0 ∷ 0 ∷ 4 ∷ 0 ∷ 1 ∷ 2 ∷ 0 ∷ 0 ∷ 0 ∷ 0 ∷ 22 ∷ 17 ∷ 0 ∷ 1 ∷ 2 ∷ 1 ∷ 0 ∷ 0 ∷ 0 ∷ 2 ∷ 1 ∷ 0 ∷ 0 ∷ 0 ∷ 2 ∷ 4 ∷ 0 ∷ 0 ∷ 0 ∷ 14 ∷ 20 ∷ 4 ∷ 2 ∷ 1 ∷ 3 ∷ 2 ∷ 22 ∷ 122 ∷ 0 ∷ 1 ∷ 2 ∷ 10 ∷ 0 ∷ 0 ∷ 0 ∷ 23 ∷ 255 ∷ 255 ∷ 255 ∷ 127 ∷ 255 ∷ 255 ∷ 255 ∷ 127 ∷ 24 ∷ 64 ∷ 0 ∷ 21 ∷ 68 ∷ 0 ∷ 25 ∷ 21 ∷ 119 ∷ 0 ∷ 23 ∷ 254 ∷ 255 ∷ 255 ∷ 255 ∷ 254 ∷ 255 ∷ 255 ∷ 255 ∷ 24 ∷ 83 ∷ 0 ∷ 21 ∷ 87 ∷ 0 ∷ 25 ∷ 21 ∷ 119 ∷ 0 ∷ 23 ∷ 255 ∷ 255 ∷ 255 ∷ 255 ∷ 255 ∷ 255 ∷ 255 ∷ 255 ∷ 24 ∷ 114 ∷ 0 ∷ 23 ∷ 0 ∷ 0 ∷ 0 ∷ 0 ∷ 0 ∷ 0 ∷ 0 ∷ 0 ∷ 24 ∷ 114 ∷ 0 ∷ 21 ∷ 118 ∷ 0 ∷ 25 ∷ 21 ∷ 119 ∷ 0 ∷ 25 ∷ 21 ∷ 37 ∷ 0 ∷ 29 ∷ 6 ∷ 0 ∷ 3 ∷ 0 ∷ 3 ∷ 0 ∷ 255 ∷ 255 ∷ 255 ∷ 255 ∷ []) (pos 1 ∷ pos 0 ∷ pos 1 ∷ []) 2 (report 20 2 6 17 (pos 1 ∷ pos 0 ∷ pos 1 ∷ [])) ∷
     compiling (bytes " PROGRAM RETURN VAR END_VAR ; ; END_PROGRAM") (accepted (0 ∷ 0 ∷ 1 ∷ 0 ∷ 1 ∷ 0 ∷ 2 ∷ 0 ∷ 29 ∷ 6 ∷ 0 ∷ 3 ∷ 0 ∷ 0 ∷ 0 ∷ 0 ∷ 0 ∷ 0 ∷ 0 ∷ []) 1 0 0) ∷
     image (30 ∷ 0 ∷ 1 ∷ 0 ∷ 2 ∷ 0 ∷ 0 ∷ 0 ∷ 0 ∷ 2 ∷ 0 ∷ 0 ∷ 0 ∷ 0 ∷ 1 ∷ 0 ∷ 0 ∷ 0 ∷ 0 ∷ 1 ∷ 0 ∷ 0 ∷ 0 ∷ 0 ∷ 1 ∷ 0 ∷ 0 ∷ 0 ∷ 0 ∷ 2 ∷ 0 ∷ 0 ∷ 0 ∷ 0 ∷ 42 ∷ 0 ∷ 2 ∷ 0 ∷ 1 ∷ 3 ∷ 5 ∷ 2 ∷ 1 ∷ 0 ∷ 0 ∷ 0 ∷ 11 ∷ 4 ∷ 5 ∷ 1 ∷ 3 ∷ 0 ∷ 4 ∷ 1 ∷ 81 ∷ 2 ∷ 3 ∷ 0 ∷ 0 ∷ 0 ∷ 3 ∷ 5 ∷ 182 ∷ 3 ∷ 1 ∷ 2 ∷ 255 ∷ 255 ∷ 255 ∷ 127 ∷ 10 ∷ 7 ∷ 4 ∷ 5 ∷ 1 ∷ 3 ∷ 5 ∷ 4 ∷ 1 ∷ 29 ∷ 6 ∷ 0 ∷ 3 ∷ 0 ∷ 3 ∷ 0 ∷ 4 ∷ 0 ∷ 0 ∷ 0 ∷ []) (pos 0 ∷ negsuc 0 ∷ pos 0 ∷ pos 1 ∷ pos 1 ∷ negsuc 0 ∷ []) 54 (report 25 2 8 16 (pos 0 ∷ pos 0 ∷ pos 0 ∷ pos 1 ∷ pos 1 ∷ negsuc 1 ∷ [])) ∷
-    []
-
-cases10 : List Case
-cases10 =
     image (15 ∷ 0 ∷ 1 ∷ 0 ∷ 2 ∷ 237 ∷ 255 ∷ 255 ∷ 255 ∷ 2 ∷ 40 ∷ 193 ∷ 125 ∷ 22 ∷ 2 ∷ 1 ∷ 0 ∷ 0 ∷ 0 ∷ 164 ∷ 0 ∷ 2 ∷ 0 ∷ 2 ∷ 1 ∷ 0 ∷ 0 ∷ 0 ∷ 2 ∷ 1 ∷ 0 ∷ 0 ∷ 0 ∷ 2 ∷ 1 ∷ 0 ∷ 0 ∷ 0 ∷ 2 ∷ 1 ∷ 0 ∷ 0 ∷ 0 ∷ 2 ∷ 1 ∷ 0 ∷ 0 ∷ 0 ∷ 2 ∷ 1 ∷ 0 ∷ 0 ∷ 0 ∷ 2 ∷ 1 ∷ 0 ∷ 0 ∷ 0 ∷ 2 ∷ 1 ∷ 0 ∷ 0 ∷ 0 ∷ 2 ∷ 1 ∷ 0 ∷ 0 ∷ 0 ∷ 2 ∷ 1 ∷ 0 ∷ 0 ∷ 0 ∷ 2 ∷ 1 ∷ 0 ∷ 0 ∷ 0 ∷ 2 ∷ 1 ∷ 0 ∷ 0 ∷ 0 ∷ 2 ∷ 1 ∷ 0 ∷ 0 ∷ 0 ∷ 2 ∷ 1 ∷ 0 ∷ 0 ∷ 0 ∷ 2 ∷ 1 ∷ 0 ∷ 0 ∷ 0 ∷ 2 ∷ 1 ∷ 0 ∷ 0 ∷ 0 ∷ 2 ∷ 1 ∷ 0 ∷ 0 ∷ 0 ∷ 2 ∷ 1 ∷ 0 ∷ 0 ∷ 0 ∷ 2 ∷ 1 ∷ 0 ∷ 0 ∷ 0 ∷ 2 ∷ 1 ∷ 0 ∷ 0 ∷ 0 ∷ 2 ∷ 1 ∷ 0 ∷ 0 ∷ 0 ∷ 2 ∷ 1 ∷ 0 ∷ 0 ∷ 0 ∷ 2 ∷ 1 ∷ 0 ∷ 0 ∷ 0 ∷ 2 ∷ 1 ∷ 0 ∷ 0 ∷ 0 ∷ 2 ∷ 1 ∷ 0 ∷ 0 ∷ 0 ∷ 2 ∷ 1 ∷ 0 ∷ 0 ∷ 0 ∷ 2 ∷ 1 ∷ 0 ∷ 0 ∷ 0 ∷ 2 ∷ 1 ∷ 0 ∷ 0 ∷ 0 ∷ 2 ∷ 1 ∷ 0 ∷ 0 ∷ 0 ∷ 2 ∷ 1 ∷ 0 ∷ 0 ∷ 0 ∷ 2 ∷ 1 ∷ 0 ∷ 0 ∷ 0 ∷ 20 ∷ 3 ∷ 0 ∷ 2 ∷ 255 ∷ 255 ∷ 255 ∷ 255 ∷ 29 ∷ 6 ∷ 0 ∷ 3 ∷ 0 ∷ 57 ∷ 0 ∷ 228 ∷ 202 ∷ 156 ∷ 56 ∷ []) (negsuc 375292589 ∷ pos 0 ∷ negsuc 17 ∷ []) 35 (report 0 0 35 163 (negsuc 375292589 ∷ pos 0 ∷ negsuc 17 ∷ [])) ∷
     image (64 ∷ 1 ∷ 1 ∷ 0 ∷ 2 ∷ 0 ∷ 0 ∷ 0 ∷ 0 ∷ 2 ∷ 0 ∷ 0 ∷ 0 ∷ 0 ∷ 1 ∷ 0 ∷ 0 ∷ 0 ∷ 0 ∷ 2 ∷ 0 ∷ 0 ∷ 0 ∷ 0 ∷ 2 ∷ 0 ∷ 0 ∷ 0 ∷ 0 ∷ 2 ∷ 243 ∷ 255 ∷ 255 ∷ 255 ∷ 2 ∷ 1 ∷ 0 ∷ 0 ∷ 0 ∷ 2 ∷ 0 ∷ 0 ∷ 0 ∷ 0 ∷ 2 ∷ 0 ∷ 0 ∷ 0 ∷ 0 ∷ 1 ∷ 0 ∷ 0 ∷ 0 ∷ 0 ∷ 2 ∷ 245 ∷ 255 ∷ 255 ∷ 255 ∷ 2 ∷ 0 ∷ 0 ∷ 0 ∷ 128 ∷ 1 ∷ 0 ∷ 0 ∷ 0 ∷ 0 ∷ 2 ∷ 1 ∷ 0 ∷ 0 ∷ 0 ∷ 2 ∷ 0 ∷ 0 ∷ 0 ∷ 0 ∷ 2 ∷ 0 ∷ 0 ∷ 0 ∷ 0 ∷ 2 ∷ 0 ∷ 0 ∷ 0 ∷ 0 ∷ 1 ∷ 0 ∷ 0 ∷ 0 ∷ 0 ∷ 2 ∷ 0 ∷ 0 ∷ 0 ∷ 0 ∷ 2 ∷ 14 ∷ 0 ∷ 0 ∷ 0 ∷ 2 ∷ 0 ∷ 0 ∷ 0 ∷ 0 ∷ 2 ∷ 0 ∷ 0 ∷ 0 ∷ 0 ∷ 2 ∷ 0 ∷ 0 ∷ 0 ∷ 0 ∷ 1 ∷ 1 ∷ 0 ∷ 0 ∷ 0 ∷ 2 ∷ 152 ∷ 130 ∷ 134 ∷ 61 ∷ 1 ∷ 1 ∷ 0 ∷ 0 ∷ 0 ∷ 1 ∷ 1 ∷ 0 ∷ 0 ∷ 0 ∷ 2 ∷ 0 ∷ 0 ∷ 0 ∷ 0 ∷ 2 ∷ 0 ∷ 0 ∷ 0 ∷ 0 ∷ 2 ∷ 0 ∷ 0 ∷ 0 ∷ 0 ∷ 2 ∷ 51 ∷ 17 ∷ 108 ∷ 118 ∷ 2 ∷ 0 ∷ 0 ∷ 0 ∷ 0 ∷ 1 ∷ 0 ∷ 0 ∷ 0 ∷ 0 ∷ 1 ∷ 0 ∷ 0 ∷ 0 ∷ 0 ∷ 2 ∷ 9 ∷ 0 ∷ 0 ∷ 0 ∷ 1 ∷ 1 ∷ 0 ∷ 0 ∷ 0 ∷ 2 ∷ 0 ∷ 0 ∷ 0 ∷ 0 ∷ 2 ∷ 0 ∷ 0 ∷ 0 ∷ 0 ∷ 2 ∷ 0 ∷ 0 ∷ 0 ∷ 0 ∷ 2 ∷ 0 ∷ 0 ∷ 0 ∷ 0 ∷ 1 ∷ 0 ∷ 0 ∷ 0 ∷ 0 ∷ 2 ∷ 0 ∷ 0 ∷ 0 ∷ 0 ∷ 2 ∷ 1 ∷ 0 ∷ 0 ∷ 0 ∷ 2 ∷ 0 ∷ 0 ∷ 0 ∷ 0 ∷ 1 ∷ 0 ∷ 0 ∷ 0 ∷ 0 ∷ 2 ∷ 0 ∷ 0 ∷ 0 ∷ 0 ∷ 1 ∷ 0 ∷ 0 ∷ 0 ∷ 0 ∷ 2 ∷ 7 ∷ 0 ∷ 0 ∷ 0 ∷ 2 ∷ 0 ∷ 0 ∷ 0 ∷ 0 ∷ 2 ∷ 0 ∷ 0 ∷ 0 ∷ 0 ∷ 1 ∷ 0 ∷ 0 ∷ 0 ∷ 0 ∷ 1 ∷ 0 ∷ 0 ∷ 0 ∷ 0 ∷ 1 ∷ 0 ∷ 0 ∷ 0 ∷ 0 ∷ 2 ∷ 0 ∷ 0 ∷ 0 ∷ 0 ∷ 2 ∷ 0 ∷ 0 ∷ 0 ∷ 0 ∷ 2 ∷ 0 ∷ 0 ∷ 0 ∷ 0 ∷ 1 ∷ []) [] 6 (report 23 0 0 0 []) ∷
     compiling (bytes "PROGRAM\tI REPEAT\nELSIF;UNTIL\u{c}NOT((TRUE))END_REPEAT;CASE\t8#7*(\n-(16#6-\u{c}-(8#11\nMOD 0/( -(9-8#11*8#7-2#1111111111111111111111111111_111)))+ -(\n-16#8*((((10)))/2#10*16#5\rMOD(2#111-8)))))OF 16#1,16#3..8#1777777777_7:;20:;;+8#1_4..2#111111111111111_111_1111111111111: -8#1:ELSE\u{c}END_CASE;END_PROGRAM") (refused 5 17) ∷

@@ -13,8 +13,8 @@ use Rattle.rules.specs.Evaluate.{Told, evaluate, toldBy}
 pub data Fact : Type 0 where
   -- of compiling the text: the answer
   answers : Answer → Fact
-  -- the same with an image buffer of this many bytes
-  answersIn : ℕ → Answer → Fact
+  -- the same with working memory of this many numbers and an image buffer of this many bytes
+  answersIn : ℕ → ℕ → Answer → Fact
   -- of evaluating the text, and of running its image: outcome, ticks and table
   tells : Res Told → Res Told → Fact
   -- of running the text's image: the whole report
@@ -44,7 +44,7 @@ tellsRun (refuse n p) = refuse n p
 -- what is found, of the kind that is wanted
 abbrev pub like : Fact → List ℕ → ℕ → Table → Fact
 like (answers a) text budget t = answers (answered text)
-like (answersIn n a) text budget t = answersIn n (compile memoryNumbers n text)
+like (answersIn lent n a) text budget t = answersIn lent n (compile lent n text)
 like (tells r s) text budget t = tells (evaluate memoryNumbers imageLimit text budget t) (tellsRun (running (answered text) budget t))
 like (reports r) text budget t = reports (running (answered text) budget t)
 like (runs r) image budget t = runs (runImage image budget t)
@@ -59,7 +59,11 @@ compiling text a = record { given = text; table = []; budget = 0; want = answers
 
 -- a text, the length of the image buffer, and the compiler's answer
 abbrev pub compilingIn : List ℕ → ℕ → Answer → Case
-compilingIn text n a = record { given = text; table = []; budget = 0; want = answersIn n a }
+compilingIn text n a = record { given = text; table = []; budget = 0; want = answersIn memoryNumbers n a }
+
+-- a text, the length of working memory in numbers, and the compiler's answer
+abbrev pub compilingWith : List ℕ → ℕ → Answer → Case
+compilingWith text lent a = record { given = text; table = []; budget = 0; want = answersIn lent imageLimit a }
 
 -- a text, a table and a budget, and the compiler's refusal
 abbrev pub refusing : List ℕ → Table → ℕ → ℕ → ℕ → Case

@@ -1,4 +1,4 @@
--- The limits of the rules, each with the rule it comes from. Nothing else in the rules names these figures.
+-- The limits of the rules, each with the rule it comes from. The other files call them by these names.
 use Prim.Native.Nat.{ℕ}
 
 -- the text that is compiled: at most 16,384 bytes (number 1)

@@ -1,13 +1,14 @@
--- Sentences of the rules, each by a short text or image whose answer was worked out by hand: one statement over one list.
+-- Sentences of the rules, each by a text or image whose answer was worked out by hand: every number of the list, and each limit from both sides.
 use mathlib.Core.Path.{_≡_, refl}
 use mathlib.Core.List.{List, [], _∷_, _++_, map}
-use Prim.Native.Nat.{ℕ}
+use Prim.Native.Nat.{ℕ, zero, suc, _+_, _/_, _%_}
 use Prim.Native.String.{String}
 use lib.IntN.{pos, negsuc}
+use lib.ListN.{replicate}
 use Rattle.rules.specs.Base.{bytes}
 use Rattle.rules.specs.Compile.{accepted, refused}
 use Rattle.rules.specs.Opened.{opened}
-use Rattle.rules.specs.Cases.{Case, found, compiling, meaningAt, meaning, report, image, filling, overA}
+use Rattle.rules.specs.Cases.{Case, found, compiling, compilingIn, compilingWith, meaningAt, meaning, report, image, filling, overA}
 
 -- statements over A, a DINT, and X, a BOOL
 abbrev overAX : String → List ℕ
@@ -24,6 +25,72 @@ code n c = coded n c 0x00 (0x00 ∷ 0x00 ∷ 0x00 ∷ 0x00 ∷ [])
 -- an image with one variable of this type and this initial value, and code that only halts
 abbrev halting : ℕ → ℕ → List ℕ
 halting τ z = 0x05 ∷ 0x00 ∷ 0x01 ∷ 0x00 ∷ τ ∷ z ∷ 0x00 ∷ 0x00 ∷ 0x00 ∷ 0x01 ∷ 0x00 ∷ 0x02 ∷ 0x00 ∷ 0x1D ∷ 0x06 ∷ 0x00 ∷ 0x03 ∷ 0x00 ∷ 0x00 ∷ 0x00 ∷ 0x00 ∷ 0x00 ∷ 0x00 ∷ 0x00 ∷ []
+
+-- a text so many times
+abbrev times : ℕ → List ℕ → List ℕ
+times zero s = []
+times (suc n) s = s ++ times n s
+
+-- n declarations of nine bytes each, with different names, from A00 on
+abbrev declared : ℕ → List ℕ
+declared zero = []
+declared (suc n) = declared n ++ (65 ∷ (48 + n / 10) ∷ (48 + n % 10) ∷ bytes ":BOOL;")
+
+-- a program over n variables
+abbrev over : ℕ → List ℕ
+over n = bytes "PROGRAM P VAR " ++ (declared n ++ bytes "END_VAR END_PROGRAM")
+
+-- a CASE of n + 1 labels, and a last assignment: 12 n + 24 bytes of code, and the assignment's
+abbrev labelled : ℕ → String → List ℕ
+labelled n s = bytes "PROGRAM P VAR A:DINT; END_VAR CASE A OF 1" ++ (times n (bytes ",1") ++ (bytes ": ; END_CASE; " ++ (bytes s ++ bytes " END_PROGRAM")))
+
+-- an expression that is 30 higher than its innermost
+abbrev high : String → List ℕ
+high s = times 15 (bytes "1+1*(") ++ (bytes s ++ times 15 (bytes ")"))
+
+-- statements over A around an expression
+abbrev around : String → List ℕ → String → List ℕ
+around a e b = bytes "PROGRAM P VAR A:DINT; END_VAR " ++ (bytes a ++ (e ++ (bytes b ++ bytes " END_PROGRAM")))
+
+-- Each limit from both sides
+
+lengthCases : List Case
+lengthCases =
+    -- 17, before 1; the published length is enough
+    compilingWith (bytes "PROGRAM P END_PROGRAM;") 262143 (refused 17 0) ∷
+    compilingWith (times 16385 (bytes " ")) 262143 (refused 17 0) ∷
+    compilingWith (bytes "PROGRAM P END_PROGRAM;") 262144 (refused 5 21) ∷
+    -- 1, before the tokens; 16,384 bytes are read
+    compiling (times 16385 (bytes "?")) (refused 1 16384) ∷
+    compiling (times 16384 (bytes " ")) (refused 5 16384) ∷
+    []
+
+nestingCases : List Case
+nestingCases =
+    -- the 65th variable
+    compiling (over 65) (refused 9 590) ∷
+    meaning (over 64) (replicate 64 (pos 0)) 0 0 (replicate 64 (pos 0)) ∷
+    -- the 17th IF, the 9th FOR
+    compiling (around "" (times 17 (bytes "IF TRUE THEN ")) "") (refused 10 238) ∷
+    meaning (around "" (times 16 (bytes "IF TRUE THEN ") ++ times 16 (bytes "END_IF; ")) "") (pos 0 ∷ []) 0 16 (pos 0 ∷ []) ∷
+    compiling (around "" (times 9 (bytes "FOR A:=1 TO 2 DO ")) "") (refused 10 166) ∷
+    compiling (around "" (times 8 (bytes "FOR A:=1 TO 2 DO ") ++ times 8 (bytes "END_FOR; ")) "") (refused 11 51) ∷
+    -- height 32 and 33; a FOR final counts one more
+    meaning (around "A:=" (high "1+1") ";") (pos 0 ∷ []) 0 1 (pos 17 ∷ []) ∷
+    compiling (around "A:=" (high "1+1*1") ";") (refused 10 33) ∷
+    compiling (around "FOR A:=1 TO " (high "1+1") " DO END_FOR;") (refused 10 42) ∷
+    []
+
+codeLimitCases : List Case
+codeLimitCases =
+    -- 8,192 bytes of code pass 13 and come to 14; one more is 13, before 14
+    compilingIn (labelled 680 "A:=1;") 0 (refused 14 1432) ∷
+    compilingIn (labelled 680 "A:=-1;") 0 (refused 13 1433) ∷
+    -- an image of 35 bytes, and room for one less
+    compilingIn (overA "A:=A+1;") 34 (refused 14 49) ∷
+    compilingIn (overA "A:=A+1;") 35
+    (accepted (coded 12 (0x01 ∷ 0x03 ∷ 0x00 ∷ 0x02 ∷ 0x01 ∷ 0x00 ∷ 0x00 ∷ 0x00 ∷ 0x0A ∷ 0x04 ∷ 0x00 ∷ 0x1D ∷ []) 0x02 (0x01 ∷ 0x00 ∷ 0x00 ∷ 0x00 ∷ [])) 12 2 1) ∷
+    []
 
 tokenCases : List Case
 tokenCases =
@@ -159,3 +226,15 @@ sentences = tokenCases ++ (syntaxCases ++ (walkCases ++ (meaningCases ++ (codeCa
 all-sentences : map found sentences ≡ map (λ c. c .want) sentences
 unfolding opened sentences tokenCases syntaxCases walkCases meaningCases codeCases machineCases
 all-sentences = refl
+
+all-length : map found lengthCases ≡ map (λ c. c .want) lengthCases
+unfolding opened lengthCases
+all-length = refl
+
+all-nesting : map found nestingCases ≡ map (λ c. c .want) nestingCases
+unfolding opened nestingCases
+all-nesting = refl
+
+all-codeLimit : map found codeLimitCases ≡ map (λ c. c .want) codeLimitCases
+unfolding opened codeLimitCases
+all-codeLimit = refl
