@@ -2,20 +2,18 @@
 use mathlib.Core.Path.{_≡_, refl, sym, ap, _∙_}
 use mathlib.Core.Bool.{Bool, true, false, _&&_, cond}
 use Prim.Native.Nat.{ℕ, zero, suc, _+_, _-_, _*_, _/_, _≤_, _<_}
-use native.Mathlib.Nat.{mul-le-mul, le-trans, lt-of-le-of-lt, div-le-self, mod-eq-sub-div-mul, div-add-mod', zero-mul}
+use native.Mathlib.Nat.{mul-le-mul, le-trans, lt-of-le-of-lt, div-le-self}
 use native.Mathlib.Omega.{arith}
 use lib.Dec.{T, leb, ltb, lit<}
-use lib.IntN.{ℤ, pos, negsuc, negℤ, subℕ, natAbs, _+ℤ_, _-ℤ_, _*ℤ_, negℤ-negℤ}
+use lib.IntN.{ℤ, pos, negsuc, negℤ, subℕ, natAbs, _+ℤ_, _-ℤ_, _*ℤ_}
 use lib.Signed.{nonNeg, mag, ltZ, leZ, quotZ, remZ, mag-rem}
-use borrow.Author.Tests.{ltb-true, ltb-false, leb-true, leb-false, le-leb, lt-leb, lt-ltb, le-ltb}
+use borrow.Author.Tests.{ltb-true, ltb-false, leb-true, leb-false, le-leb, lt-leb, lt-ltb, le-ltb, ne-eqb}
 use mir.Syntax.{w32, w64}
 use mir.Val.{SFits, Fits, toZ, ofZ}
 use mir.Facts.{sfits-widen, toZ-ofZ, toZ-pos}
-use borrow.Author.Tests.{ne-eqb}
 use Rattle.rules.specs.Core.{Div, Mod}
-use Rattle.rules.specs.Numbers.{dint, holds, between, low, high}
+use Rattle.rules.specs.Numbers.{dint, holds, between, low, high, isZero}
 use Rattle.rules.specs.Meaning.{val, stop, range, divide, fit, binop, passes}
-use Rattle.rules.specs.Numbers.{isZero}
 use Rattle.arith.specs.Exact.{advanceOf}
 use Rattle.rules.specs.Bytes.{ofU, toU}
 use Rattle.arith.specs.declared.Advance.the-variants.{Ends, Steps}
@@ -39,9 +37,9 @@ below : (z : ℤ) → ltZ z (negsuc 2147483647) ≡ true → 2147483647 < mag z
 below (pos n) h = let z : _≡_ {A = ℕ} 0 1 = cc in omega arith
 below (negsuc n) h = ltb-true 2147483647 n h
 
-above : (z : ℤ) → ltZ (pos 2147483647) z ≡ true → 2147483647 < mag z
-above (pos n) h = ltb-true 2147483647 n h
-above (negsuc n) h = let z : _≡_ {A = ℕ} 0 1 = cc in omega arith
+above : (k : ℕ) (z : ℤ) → 2147483647 ≤ k → ltZ (pos k) z ≡ true → 2147483647 < mag z
+above k (pos n) l h = omega (arith, ltb-true k n h)
+above k (negsuc n) l h = let z : _≡_ {A = ℕ} 0 1 = cc in omega arith
 
 inside : (z : ℤ) → ltZ z (negsuc 2147483647) ≡ false → ltZ (pos 2147483647) z ≡ false → mag z ≤ 2147483647
 inside (pos n) h k = ltb-false 2147483647 n k
@@ -62,8 +60,8 @@ fits-in h = record { sfits = omega arith }
 pub below-out : {z : ℤ} → SFits w64 z → ltZ (toZ w64 (ofZ w64 z)) (negsuc 2147483647) ≡ true → 2147483647 < mag z
 below-out {z} f h = below z (rw (toZ-ofZ f) at h)
 
-pub above-out : {z : ℤ} → SFits w64 z → ltZ (pos 2147483647) (toZ w64 (ofZ w64 z)) ≡ true → 2147483647 < mag z
-above-out {z} f h = above z (rw (toZ-ofZ f) at h)
+pub above-out : {k : ℕ} {z : ℤ} → SFits w64 z → 2147483647 ≤ k → ltZ (pos k) (toZ w64 (ofZ w64 z)) ≡ true → 2147483647 < mag z
+above-out {k} {z} f l h = above k z l (rw (toZ-ofZ f) at h)
 
 pub inside-in : {z : ℤ} → SFits w64 z → ltZ (toZ w64 (ofZ w64 z)) (negsuc 2147483647) ≡ false → ltZ (pos 2147483647) (toZ w64 (ofZ w64 z)) ≡ false → mag z ≤ 2147483647
 inside-in {z} f h k = inside z (rw (toZ-ofZ f) at h) (rw (toZ-ofZ f) at k)
@@ -118,16 +116,16 @@ quot-fits a b p q = record { sfits = omega (arith, mag-quot a b) }
 pub rem-fits : (a b : ℤ) → SFits w32 a → SFits w32 b → SFits w64 (remZ a b)
 rem-fits a b p q = record { sfits = omega (arith, mag-rem a b) }
 
--- ---- an operation of the machine at 64 bits, on two numbers of 32
-module _ (op : ℤ → ℤ → ℤ) (reach : (a b : ℤ) → SFits w32 a → SFits w32 b → SFits w64 (op a b)) where
-  private-back : (x a : ℤ) → SFits w32 a → x ≡ toZ w32 (ofZ w32 a) → toZ w64 (ofZ w64 x) ≡ a
-  private-back x a f e = rw (e, toZ-ofZ f) (toZ-ofZ (sfits-widen tt f))
+-- ---- what `wide` makes of a number, as the machine reads it back
+pub wide-fits : {x : ℤ} → SFits w32 x → SFits w32 (toZ w64 (ofZ w64 x))
+wide-fits f = rw (toZ-ofZ {w = w64} (sfits-widen tt f)) f
 
-  pub op-fits : (x y a b : ℤ) → SFits w32 a → SFits w32 b → x ≡ toZ w32 (ofZ w32 a) → y ≡ toZ w32 (ofZ w32 b) → SFits w64 (op (toZ w64 (ofZ w64 x)) (toZ w64 (ofZ w64 y)))
-  op-fits x y a b p q e f = rw (private-back x a p e, private-back y b q f) (reach a b p q)
+pub wide-back : {x a : ℤ} → SFits w32 a → x ≡ toZ w32 (ofZ w32 a) → toZ w64 (ofZ w64 x) ≡ a
+wide-back f e = rw (e, toZ-ofZ f) (toZ-ofZ {w = w64} (sfits-widen tt f))
 
-  pub op-is : (x y a b : ℤ) → SFits w32 a → SFits w32 b → x ≡ toZ w32 (ofZ w32 a) → y ≡ toZ w32 (ofZ w32 b) → toZ w64 (ofZ w64 (op (toZ w64 (ofZ w64 x)) (toZ w64 (ofZ w64 y)))) ≡ op a b
-  op-is x y a b p q e f = rw (private-back x a p e, private-back y b q f) (toZ-ofZ (reach a b p q))
+-- an operation of the machine at 64 bits, on two numbers of 32, is exact
+pub op-is : (op : ℤ → ℤ → ℤ) → ((a b : ℤ) → SFits w32 a → SFits w32 b → SFits w64 (op a b)) → {x y a b : ℤ} → SFits w32 a → SFits w32 b → x ≡ toZ w32 (ofZ w32 a) → y ≡ toZ w32 (ofZ w32 b) → toZ w64 (ofZ w64 (op (toZ w64 (ofZ w64 x)) (toZ w64 (ofZ w64 y)))) ≡ op a b
+op-is op reach p q e f = rw (wide-back p e, wide-back q f) (toZ-ofZ (reach _ _ p q))
 
 -- ---- two's complement
 pub low-half : (n : ℕ) → n < 2147483648 → toZ w32 n ≡ ofU n
@@ -145,10 +143,10 @@ pub high-fits : (n : ℕ) → 2147483648 ≤ n → Fits w32 n → SFits w32 (neg
 high-fits n h f = record { sfits = omega arith }
 
 -- ---- division
-pub not-zero : (b : ℤ) → SFits w64 b → (b ≡ pos 0 → ⊥) → 0 < ofZ w64 b
-not-zero (pos zero) f h = absurd (h refl)
-not-zero (pos (suc n)) f h = omega arith
-not-zero (negsuc n) f h = let m = f .sfits in omega arith
+some-bits : (b : ℤ) → SFits w64 b → (b ≡ pos 0 → ⊥) → 0 < ofZ w64 b
+some-bits (pos zero) f h = absurd (h refl)
+some-bits (pos (suc n)) f h = omega arith
+some-bits (negsuc n) f h = let m = f .sfits in omega arith
 
 zero-not : (b : ℤ) → (b ≡ pos 0 → ⊥) → isZero b ≡ false
 unfolding isZero
@@ -164,43 +162,6 @@ pub rem-is : (a b : ℤ) → (b ≡ pos 0 → ⊥) → fit dint (remZ a b) ≡ b
 unfolding binop
 rem-is a b h = rw (zero-not b h, binop)
 
--- the remainder with the dividend's sign is the dividend less the quotient times the divisor
-under : (n k : ℕ) → k ≤ n → subℕ n k ≡ pos (n - k)
-under n k h = rw (le-ltb n k h)
-
-pos-less : (n k : ℕ) → k ≤ n → pos n +ℤ negℤ (pos k) ≡ pos (n - k)
-pos-less n zero h = ap pos (omega arith)
-pos-less n (suc k) h = under n (suc k) h
-
-neg-times : (q m : ℕ) → negℤ (pos q) *ℤ negsuc m ≡ pos (q * suc m)
-neg-times zero m = rw (zero-mul (suc m))
-neg-times (suc q) m = refl
-
-neg-times-pos : (q m : ℕ) → negℤ (pos q) *ℤ pos m ≡ negℤ (pos (q * m))
-neg-times-pos zero m = rw (zero-mul m)
-neg-times-pos (suc q) m = refl
-
-neg-more : (a k : ℕ) → k ≤ suc a → negsuc a +ℤ pos k ≡ negℤ (pos (suc a - k))
-neg-more a k h = go (ltb k (suc a)) refl
-  where
-    go : (t : Bool) → ltb k (suc a) ≡ t → cond t (negsuc (suc a - suc k)) (pos (k - suc a)) ≡ negℤ (pos (suc a - k))
-    go true e =
-        let d : suc a - k ≡ suc (suc a - suc k) = omega (arith, ltb-true k (suc a) e) in
-        rw d
-    go false e =
-        let d : suc a - k ≡ 0 = omega (arith, ltb-false k (suc a) e) in
-        let z : k - suc a ≡ 0 = omega (arith, ltb-false k (suc a) e) in
-        rw (d, z)
-
-less : (n m : ℕ) → n / m * m ≤ n
-less n m = omega (arith, div-add-mod' n m)
-
-pub rem-law : (a b : ℤ) → a -ℤ quotZ a b *ℤ b ≡ remZ a b
-rem-law (pos n) (pos m) = pos-less n (n / m * m) (less n m) ∙ ap pos (sym (mod-eq-sub-div-mul n m))
-rem-law (pos n) (negsuc m) = rw (neg-times (n / suc m) m) (pos-less n (n / suc m * suc m) (less n (suc m)) ∙ ap pos (sym (mod-eq-sub-div-mul n (suc m))))
-rem-law (negsuc a) (pos m) = rw (neg-times-pos (suc a / m) m, negℤ-negℤ (pos (suc a / m * m))) (neg-more a (suc a / m * m) (less (suc a) m) ∙ ap (λ (k : ℕ). negℤ (pos k)) (sym (mod-eq-sub-div-mul (suc a) m)))
-rem-law (negsuc a) (negsuc m) = rw (negℤ-negℤ (pos (suc a / suc m * suc m))) (neg-more a (suc a / suc m * suc m) (less (suc a) (suc m)) ∙ ap (λ (k : ℕ). negℤ (pos k)) (sym (mod-eq-sub-div-mul (suc a) (suc m))))
-
 -- a test `b == 0` speaks of the number's bits
 pub zero-bits : {b : ℤ} → SFits w32 b → ofZ w32 b ≡ 0 → b ≡ pos 0
 zero-bits f e = sym (toZ-ofZ f) ∙ ap (toZ w32) e
@@ -213,13 +174,9 @@ pub by-zero-rem : (a b : ℤ) → b ≡ pos 0 → stop divide ≡ binop Mod a b
 unfolding binop isZero
 by-zero-rem a b e = rw e
 
--- what division asks of the machine
-pub div-asks : (x y a b : ℤ) → SFits w32 a → SFits w32 b → x ≡ toZ w32 (ofZ w32 a) → y ≡ toZ w32 (ofZ w32 b) → (ofZ w32 b ≡ 0 → ⊥) → (0 < ofZ w64 y) × SFits w64 (quotZ (toZ w64 (ofZ w64 x)) (toZ w64 (ofZ w64 y)))
-div-asks x y a b p q e f h =
-    let y-is : y ≡ b = f ∙ toZ-ofZ q in (
-      rw y-is (not-zero b (sfits-widen tt q) (λ n. h (ap (ofZ w32) n))),
-      op-fits quotZ quot-fits x y a b p q e f,
-    )
+-- a divisor that is not zero is not zero in 64 bits
+pub not-zero : {y b : ℤ} → SFits w32 y → SFits w32 b → y ≡ toZ w32 (ofZ w32 b) → (ofZ w32 b ≡ 0 → ⊥) → 0 < ofZ w64 y
+not-zero f g e h = some-bits _ (sfits-widen tt f) (λ n. h (ap (ofZ w32) (sym (e ∙ toZ-ofZ g) ∙ n)))
 
 -- ---- a FOR's step
 pub up : (v step last : ℤ) → leZ (pos 0) step ≡ true → ltZ last v ≡ passes step v last
@@ -286,11 +243,8 @@ bits-fit (pos n) f = let m = f .sfits in record { fits = omega arith }
 bits-fit (negsuc n) f = record { fits = omega arith }
 
 -- the sum that bits makes, as the machine has it
-pub lifted-is : (y x : ℤ) → SFits w32 x → leZ (pos 0) x ≡ false → y ≡ toZ w32 (ofZ w32 x) → toZ w64 (ofZ w64 y) +ℤ pos 4294967296 ≡ pos (toU x)
-lifted-is y x f h e = rw (e, toZ-ofZ f, toZ-ofZ {w = w64} (sfits-widen tt f)) (lifted x f h)
-
-pub wide-back : (x a : ℤ) → SFits w32 a → x ≡ toZ w32 (ofZ w32 a) → toZ w64 (ofZ w64 x) ≡ a
-wide-back x a f e = rw (e, toZ-ofZ f) (toZ-ofZ {w = w64} (sfits-widen tt f))
+pub lifted-is : {y x : ℤ} → SFits w32 x → leZ (pos 0) x ≡ false → y ≡ toZ w32 (ofZ w32 x) → toZ w64 (ofZ w64 y) +ℤ pos 4294967296 ≡ pos (toU x)
+lifted-is f h e = rw (wide-back f e) (lifted _ f h)
 
 pub passes-same : {s u v w l k : ℤ} → s ≡ u → v ≡ w → l ≡ k → passes s v l ≡ passes u w k
 passes-same p q r = rw (p, q, r)

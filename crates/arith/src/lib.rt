@@ -3,6 +3,8 @@
 ghost use mathlib.Core.List.{[]};
 ghost use mathlib.Core.Path.{_≡_};
 ghost use lib.Signed.{ltZ, leZ};
+ghost use mir.Syntax.{w32};
+ghost use mir.Val.{SFits};
 ghost use Rattle.rules.specs.Bytes.{toU, ofU, put4, of4};
 ghost use Rattle.rules.specs.Core.{Neg, Mul, Div, Mod, Add, Sub};
 ghost use Rattle.rules.specs.Meaning.{fit, unop, binop, passes};
@@ -51,7 +53,7 @@ pub fn mul(a: i32, b: i32) -> Answer
 pub fn neg(a: i32) -> Answer
     ensures { λ r. ⌜ evOf r ≡ unop Neg a ⌝ }
 {
-    narrow(0 - wide(a))
+    sub(0, a)
 }
 
 pub fn lt(a: i32, b: i32) -> bool
@@ -72,9 +74,9 @@ pub fn same(a: i32, b: i32) -> bool
     if le(a, b) { le(b, a) } else { false }
 }
 
-// The same number, in 64 bits.
+// The same number, in 64 bits: still a number of 32.
 fn wide(x: i32) -> i64
-    ensures { λ r. ⌜ r ≡ x ⌝ }
+    ensures { λ r. ⌜ (r ≡ x) × (SFits w32 r) ⌝ }
 {
     x as i64
 }

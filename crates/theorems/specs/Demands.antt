@@ -7,21 +7,23 @@ use mathlib.Core.List.{[], _∷_, _++_}
 use mathlib.Core.Option.{some}
 use Prim.Native.Nat.{ℕ, suc, _+_, _*_, _≤_}
 use native.Mathlib.Omega.{arith}
-use lib.IntN.{ℤ, pos, _+ℤ_}
+use lib.IntN.{ℤ, pos, _+ℤ_, _-ℤ_, _*ℤ_}
+use lib.Signed.{quotZ}
 use lib.Dec.{leb}
 use lib.ListN.{length}
 use Rattle.rules.specs.Limits.{stackLimit, textLimit, unboundedMark}
 use Rattle.rules.specs.Base.{Res, ok, _>>=_}
 use Rattle.rules.specs.Tokens.{fold, tokensAt, Token, tokens}
-use Rattle.rules.specs.Numbers.{Ty}
+use Rattle.rules.specs.Numbers.{Ty, dint, isZero}
 use Rattle.rules.specs.Syntax.{program}
-use Rattle.rules.specs.Core.{types, Program, Expr, List, while, repeat}
-use Rattle.rules.specs.Meaning.{Table, passes, exec, loopW, loopR, loopF, execL}
+use Rattle.rules.specs.Core.{types, Program, Expr, List, while, repeat, Mod}
+use Rattle.rules.specs.Meaning.{Table, fit, binop, passes, exec, loopW, loopR, loopF, execL}
 use Rattle.rules.specs.Worst.{passCount}
 use Rattle.rules.specs.Image.{image, Loaded, imageIn}
 use Rattle.rules.specs.Run.{runLoaded, runImage, validFor}
 use Rattle.rules.specs.Compile.{accepted, refused, compiled, answer, compile}
 use Rattle.rules.specs.Evaluate.{Told, toldBy, evaluate}
+use Rattle.theorems.specs.Remainder.{remainder}
 use Rattle.theorems.specs.TicksFall.{execL-le}
 use Rattle.theorems.specs.Total.{while-fuel, repeat-fuel, for-fuel}
 use Rattle.theorems.specs.Passes.{count-none, count-last, count-more}
@@ -131,6 +133,10 @@ passes-one x y d e f = count-last d y x e f
 
 pub passes-one-more : (x y d : ℤ) → d ≢ pos 0 → passes d (x +ℤ d) y ≡ false → passCount x y d ≡ suc (passCount (x +ℤ d) y d)
 passes-one-more x y d n e = count-more d y x n e
+
+-- MOD, whose definition is the library's: the dividend less the truncated exact quotient times the divisor, within the range
+pub remainder-is : (a b : ℤ) → isZero b ≡ false → binop Mod a b ≡ fit dint (a -ℤ quotZ a b *ℤ b)
+remainder-is = remainder
 
 -- 8. Blanks, comments, letter case and the program's name: two texts whose tokens are the same up to places and the program's name have
 -- the same answer but for the place of a refusal, so the same image byte for byte (both within the text limit, or both over it)

@@ -5,6 +5,7 @@ pub mod Running
 pub mod Instructions
 pub mod StackLimit
 -- The meaning: ticks fall, fuel is enough, what a run keeps, types, the worst case
+pub mod Remainder
 pub mod TicksFall
 pub mod Total
 pub mod Keeping

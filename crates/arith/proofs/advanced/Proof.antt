@@ -7,16 +7,28 @@ use mir.Val.{SFits, toZ, ofZ}
 use mir.Facts.{toZ-ofZ}
 use borrow.Author.Needs.{needs}
 use Rattle.rules.specs.Meaning.{passes}
-use Rattle.arith.proofs.Reach.{add-fits, op-fits, op-is, passes-same, inside-sum, fits-in, ends, steps}
+use Rattle.arith.proofs.Reach.{add-fits, wide-fits, op-is, passes-same, inside-sum, fits-in, ends, steps}
 use Rattle.arith.proofs.advanced.Statement.{statement}
 use Rattle.arith.proofs.advanced.Tie as tie
+
+wide-requires : tie.Need-wide-requires
+wide-requires c κs = search needs
+
+wide-requires-2 : tie.Need-wide-requires-2
+wide-requires-2 c κs = search needs
+
+add-z : tie.Need-add-z
+add-z c = add-fits _ _ (wide-fits (c .before .wide .ensures .1)) (wide-fits (c .wide2 .ensures .1))
+
+passes-wide-requires : tie.Need-passes-wide-requires
+passes-wide-requires c κs = search needs
 
 -- the sum in 64 bits is the exact sum
 sum-is : (c : tie.After-passes-wide) → let s = c .before .before .before in
     toZ w64 (ofZ w64 (toZ w64 (ofZ w64 (c .before .before .wide .result)) +ℤ toZ w64 (ofZ w64 (c .before .wide2 .result)))) ≡ s .args .v +ℤ s .args .step
 sum-is c =
     let s = c .before .before .before in
-    op-is _+ℤ_ add-fits _ _ _ _ (s .fits .v) (s .fits .step) (c .before .before .wide .ensures) (c .before .wide2 .ensures)
+    op-is _+ℤ_ add-fits (s .fits .v) (s .fits .step) (c .before .before .wide .ensures .0) (c .before .wide2 .ensures .0)
 
 -- what the test says is said of the exact sum
 tested : (c : tie.After-passes-wide) (b : Bool) → c .passes-wide .result ≡ b → let s = c .before .before .before in passes (s .args .step) (s .args .v +ℤ s .args .step) (s .args .last) ≡ b
@@ -29,18 +41,6 @@ fits : (c : tie.After-passes-wide) → c .passes-wide .result ≡ false → let 
 fits c e =
     let s = c .before .before .before in
     fits-in (inside-sum _ _ _ (s .fits .v) (s .fits .step) (s .fits .last) (tested c false e))
-
-wide-requires : tie.Need-wide-requires
-wide-requires c κs = search needs
-
-wide-requires-2 : tie.Need-wide-requires-2
-wide-requires-2 c κs = search needs
-
-add-z : tie.Need-add-z
-add-z c = op-fits _+ℤ_ add-fits _ _ _ _ (c .before .before .fits .v) (c .before .before .fits .step) (c .before .wide .ensures) (c .wide2 .ensures)
-
-passes-wide-requires : tie.Need-passes-wide-requires
-passes-wide-requires c κs = search needs
 
 returns : tie.Need-returns
 returns c = ends _ _ _ (tested (c .before) _ (c .if1 .taken))

@@ -14,7 +14,7 @@ use Rattle.arith.proofs.bits.Tie as tie
 sum-is : (c : tie.After-wide) → toZ w64 (ofZ w64 (c .wide .result)) +ℤ pos 4294967296 ≡ pos (toU (c .before .before .args .x))
 sum-is c =
     let f = c .before .before .fits .x in
-    lifted-is _ _ f (rw (toZ-ofZ f) at (c .before .if1 .left)) (c .wide .ensures)
+    lifted-is f (rw (toZ-ofZ f) at (c .before .if1 .left)) (c .wide .ensures .0)
 
 wide-fits : (c : tie.After-wide) → SFits w64 (pos (toU (c .before .before .args .x)))
 wide-fits c = let b = bits-fit (c .before .before .args .x) (c .before .before .fits .x) .fits in record { sfits = omega arith }

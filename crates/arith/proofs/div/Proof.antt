@@ -5,7 +5,7 @@ use mir.Syntax.{w32}
 use mir.Val.{ofZ}
 use Rattle.rules.specs.Numbers.{dint}
 use Rattle.rules.specs.Meaning.{fit}
-use Rattle.arith.proofs.Reach.{quot-fits, op-is, zero-bits, by-zero, div-asks, div-is}
+use Rattle.arith.proofs.Reach.{quot-fits, op-is, zero-bits, by-zero, not-zero, wide-fits, div-is}
 use borrow.Author.Needs.{needs}
 use Rattle.arith.proofs.div.Statement.{statement}
 use Rattle.arith.proofs.div.Tie as tie
@@ -20,7 +20,10 @@ wide-requires-2 : tie.Need-wide-requires-2
 wide-requires-2 c κs = search needs
 
 div-narrow : tie.Need-div-narrow
-div-narrow c = div-asks _ _ _ _ (c .before .before .before .fits .a) (c .before .before .before .fits .b) (c .before .wide .ensures) (c .wide2 .ensures) (c .before .before .if1 .left)
+div-narrow c = (
+  not-zero (c .wide2 .ensures .1) (c .before .before .before .fits .b) (c .wide2 .ensures .0) (c .before .before .if1 .left),
+  quot-fits _ _ (wide-fits (c .before .wide .ensures .1)) (wide-fits (c .wide2 .ensures .1)),
+)
 
 narrow-requires : tie.Need-narrow-requires
 narrow-requires c κs = search needs
@@ -29,7 +32,7 @@ returns-2 : tie.Need-returns-2
 returns-2 c =
     let s = c .before .before .before .before in
     c .narrow .ensures
-    ∙ ap (fit dint) (op-is quotZ quot-fits _ _ _ _ (s .fits .a) (s .fits .b) (c .before .before .wide .ensures) (c .before .wide2 .ensures))
+    ∙ ap (fit dint) (op-is quotZ quot-fits (s .fits .a) (s .fits .b) (c .before .before .wide .ensures .0) (c .before .wide2 .ensures .0))
     ∙ div-is _ _ (λ n. c .before .before .before .if1 .left (ap (ofZ w32) n))
 
 pub div-spec : {M : Type 1} → statement M

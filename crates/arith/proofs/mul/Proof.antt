@@ -4,7 +4,7 @@ use mathlib.Core.Path.{ap, _∙_}
 use lib.IntN.{_*ℤ_}
 use Rattle.rules.specs.Numbers.{dint}
 use Rattle.rules.specs.Meaning.{fit, binop}
-use Rattle.arith.proofs.Reach.{mul-fits, op-fits, op-is}
+use Rattle.arith.proofs.Reach.{mul-fits, wide-fits, op-is}
 use Rattle.arith.proofs.mul.Statement.{statement}
 use Rattle.arith.proofs.mul.Tie as tie
 
@@ -15,7 +15,7 @@ wide-requires-2 : tie.Need-wide-requires-2
 wide-requires-2 c κs = search needs
 
 mul-narrow : tie.Need-mul-narrow
-mul-narrow c = op-fits _*ℤ_ mul-fits _ _ _ _ (c .before .before .fits .a) (c .before .before .fits .b) (c .before .wide .ensures) (c .wide2 .ensures)
+mul-narrow c = mul-fits _ _ (wide-fits (c .before .wide .ensures .1)) (wide-fits (c .wide2 .ensures .1))
 
 narrow-requires : tie.Need-narrow-requires
 narrow-requires c κs = search needs
@@ -24,7 +24,7 @@ returns : tie.Need-returns
 unfolding binop
 returns c =
     let s = c .before .before .before in
-    c .narrow .ensures ∙ ap (fit dint) (op-is _*ℤ_ mul-fits _ _ _ _ (s .fits .a) (s .fits .b) (c .before .before .wide .ensures) (c .before .wide2 .ensures))
+    c .narrow .ensures ∙ ap (fit dint) (op-is _*ℤ_ mul-fits (s .fits .a) (s .fits .b) (c .before .before .wide .ensures .0) (c .before .wide2 .ensures .0))
 
 pub mul-spec : {M : Type 1} → statement M
 mul-spec = tie.close (tie.spec wide-requires wide-requires-2 mul-narrow narrow-requires returns)

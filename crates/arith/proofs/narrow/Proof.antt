@@ -1,4 +1,5 @@
 -- `arith::narrow` meets its contract. Assumes nothing.
+use lib.Dec.{lit≤}
 use mir.Facts.{toZ-ofZ}
 use Rattle.arith.proofs.Reach.{left-out, held, below-out, above-out, inside-in, fits-in}
 use Rattle.arith.proofs.narrow.Statement.{statement}
@@ -8,7 +9,7 @@ returns : tie.Need-returns
 returns c = left-out _ (below-out (c .before .fits .z) (c .if1 .taken))
 
 returns-2 : tie.Need-returns-2
-returns-2 c = left-out _ (above-out (c .before .before .fits .z) (c .if2 .taken))
+returns-2 c = left-out _ (above-out (c .before .before .fits .z) (lit≤ tt) (c .if2 .taken))
 
 cast-t3 : tie.Need-cast-t3
 cast-t3 c =

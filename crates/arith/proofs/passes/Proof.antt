@@ -13,7 +13,7 @@ passes-wide-requires : tie.Need-passes-wide-requires
 passes-wide-requires c κs = search needs
 
 returns : tie.Need-returns
-returns c = c .passes-wide .ensures ∙ passes-same (toZ-ofZ (c .before .before .fits .step)) (wide-back _ _ (c .before .before .fits .v) (c .before .wide .ensures)) (toZ-ofZ (c .before .before .fits .last))
+returns c = c .passes-wide .ensures ∙ passes-same (toZ-ofZ (c .before .before .fits .step)) (wide-back (c .before .before .fits .v) (c .before .wide .ensures .0)) (toZ-ofZ (c .before .before .fits .last))
 
 pub passes-spec : {M : Type 1} → statement M
 passes-spec = tie.close (tie.spec wide-requires passes-wide-requires returns)

@@ -5,7 +5,7 @@ use mir.Syntax.{w32}
 use mir.Val.{ofZ}
 use Rattle.rules.specs.Numbers.{dint}
 use Rattle.rules.specs.Meaning.{fit}
-use Rattle.arith.proofs.Reach.{rem-fits, op-is, zero-bits, by-zero-rem, div-asks, rem-is}
+use Rattle.arith.proofs.Reach.{quot-fits, rem-fits, op-is, zero-bits, by-zero-rem, not-zero, wide-fits, rem-is}
 use borrow.Author.Needs.{needs}
 use Rattle.arith.proofs.rem.Statement.{statement}
 use Rattle.arith.proofs.rem.Tie as tie
@@ -20,7 +20,10 @@ wide-requires-2 : tie.Need-wide-requires-2
 wide-requires-2 c κs = search needs
 
 rem-narrow : tie.Need-rem-narrow
-rem-narrow c = div-asks _ _ _ _ (c .before .before .before .fits .a) (c .before .before .before .fits .b) (c .before .wide .ensures) (c .wide2 .ensures) (c .before .before .if1 .left)
+rem-narrow c = (
+  not-zero (c .wide2 .ensures .1) (c .before .before .before .fits .b) (c .wide2 .ensures .0) (c .before .before .if1 .left),
+  quot-fits _ _ (wide-fits (c .before .wide .ensures .1)) (wide-fits (c .wide2 .ensures .1)),
+)
 
 narrow-requires : tie.Need-narrow-requires
 narrow-requires c κs = search needs
@@ -29,7 +32,7 @@ returns-2 : tie.Need-returns-2
 returns-2 c =
     let s = c .before .before .before .before in
     c .narrow .ensures
-    ∙ ap (fit dint) (op-is remZ rem-fits _ _ _ _ (s .fits .a) (s .fits .b) (c .before .before .wide .ensures) (c .before .wide2 .ensures))
+    ∙ ap (fit dint) (op-is remZ rem-fits (s .fits .a) (s .fits .b) (c .before .before .wide .ensures .0) (c .before .wide2 .ensures .0))
     ∙ rem-is _ _ (λ n. c .before .before .before .if1 .left (ap (ofZ w32) n))
 
 pub rem-spec : {M : Type 1} → statement M
