@@ -12,7 +12,7 @@ use mir.Syntax.{w32, w64}
 use mir.Val.{SFits, Fits, toZ, ofZ}
 use mir.Facts.{sfits-widen, toZ-ofZ, toZ-pos}
 use Rattle.rules.specs.Core.{Div, Mod}
-use Rattle.rules.specs.Numbers.{dint, holds, between, low, high, isZero}
+use Rattle.rules.specs.Numbers.{dint, holds, between, low, high, isZero, eqZ}
 use Rattle.rules.specs.Meaning.{val, stop, range, divide, fit, binop, passes}
 use Rattle.arith.specs.Exact.{advanceOf}
 use Rattle.rules.specs.Bytes.{ofU, toU}
@@ -221,6 +221,13 @@ steps v step last h = rw h
 -- an operation reads its two numbers back from their bits
 pub two : {A : Type 0} (op : ℤ → ℤ → A) {x y : ℤ} → SFits w32 x → SFits w32 y → op (toZ w32 (ofZ w32 x)) (toZ w32 (ofZ w32 y)) ≡ op x y
 two op f g = rw (toZ-ofZ f, toZ-ofZ g)
+
+-- ---- zero
+pub same-zero : (x : ℤ) → eqZ x (pos 0) ≡ isZero x
+unfolding eqZ isZero
+same-zero (pos zero) = refl
+same-zero (pos (suc n)) = rw (lt-leb (suc n) 0 (omega arith), ne-eqb (suc n) 0 (λ e. omega arith)) refl
+same-zero (negsuc n) = refl
 
 -- ---- the bits of a number
 pub plain : (x : ℤ) → SFits w32 x → leZ (pos 0) x ≡ true → T (nonNeg x) × Fits w32 (natAbs x)

@@ -2,13 +2,14 @@
 // of a value.
 ghost use mathlib.Core.List.{[]};
 ghost use mathlib.Core.Path.{_≡_};
+ghost use Prim.Native.Nat.{_<_};
 ghost use lib.Signed.{ltZ, leZ};
 ghost use mir.Syntax.{w32};
 ghost use mir.Val.{SFits};
-ghost use Rattle.rules.specs.Bytes.{toU, ofU, put4, of4};
+ghost use Rattle.rules.specs.Bytes.{toU, ofU, put2, put4, of2, of4};
 ghost use Rattle.rules.specs.Core.{Neg, Mul, Div, Mod, Add, Sub};
 ghost use Rattle.rules.specs.Meaning.{fit, unop, binop, passes};
-ghost use Rattle.rules.specs.Numbers.{dint, eqZ};
+ghost use Rattle.rules.specs.Numbers.{dint, between, eqZ, isZero};
 ghost use Rattle.arith.specs.Exact.{evOf, advanceOf};
 
 // What an operator answers.
@@ -68,10 +69,23 @@ pub fn le(a: i32, b: i32) -> bool
     a <= b
 }
 
+// Whether z is neither below the lowest nor above the highest.
+pub fn within(lowest: i32, highest: i32, z: i32) -> bool
+    ensures { λ r. ⌜ r ≡ between lowest highest z ⌝ }
+{
+    if le(lowest, z) { le(z, highest) } else { false }
+}
+
 pub fn same(a: i32, b: i32) -> bool
     ensures { λ r. ⌜ r ≡ eqZ a b ⌝ }
 {
-    if le(a, b) { le(b, a) } else { false }
+    within(a, a, b)
+}
+
+pub fn is_zero(a: i32) -> bool
+    ensures { λ r. ⌜ r ≡ isZero a ⌝ }
+{
+    same(a, 0)
 }
 
 // The same number, in 64 bits: still a number of 32.
@@ -118,6 +132,13 @@ pub fn value_of(b0: u8, b1: u8, b2: u8, b3: u8) -> i32
     signed((b0 as u32) + 256 * (b1 as u32) + 65536 * (b2 as u32) + 16777216 * (b3 as u32))
 }
 
+// The number of two bytes, the lower first.
+pub fn word_of(b0: u8, b1: u8) -> usize
+    ensures { λ r. ⌜ (r ≡ of2 b0 b1) × (r < 65536) ⌝ }
+{
+    (b0 as usize) + 256 * (b1 as usize)
+}
+
 // What a FOR's step does to its variable.
 pub enum Advance {
     Ends,
@@ -160,15 +181,28 @@ fn bits(x: i32) -> u32
     (wide(x) + 4294967296) as u32
 }
 
-// The four bytes of a number, the lowest first.
-pub fn bytes_of(x: i32) -> [u8; 4]
-    ensures { λ r. ⌜ r ≡ put4 (toU x) [] ⌝ }
+// The two bytes of a number, the lower first.
+pub fn bytes_of_word(n: u16) -> [u8; 2]
+    ensures { λ r. ⌜ r ≡ put2 n [] ⌝ }
 {
-    let n = bits(x);
+    [(n % 256) as u8, (n / 256) as u8]
+}
+
+// The four bytes of a number, the lowest first.
+pub fn bytes_of_bits(n: u32) -> [u8; 4]
+    ensures { λ r. ⌜ r ≡ put4 n [] ⌝ }
+{
     [
         (n % 256) as u8,
         (n / 256 % 256) as u8,
         (n / 65536 % 256) as u8,
         (n / 16777216) as u8,
     ]
+}
+
+// The four bytes of a value, the lowest first, in two's complement.
+pub fn bytes_of(x: i32) -> [u8; 4]
+    ensures { λ r. ⌜ r ≡ put4 (toU x) [] ⌝ }
+{
+    bytes_of_bits(bits(x))
 }

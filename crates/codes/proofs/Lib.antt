@@ -1,0 +1,4 @@
+-- The laws that belong to no one function.
+pub mod Bytes
+pub mod Keys
+pub mod Table

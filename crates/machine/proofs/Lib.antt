@@ -1,0 +1,5 @@
+-- The laws that belong to no one function.
+pub mod Stack
+pub mod Moves
+pub mod Ticks
+pub mod Advances
