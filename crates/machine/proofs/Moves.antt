@@ -13,7 +13,7 @@ use Rattle.rules.specs.Numbers.{Ty, dint, between, holds, isDint, ofBool, isZer
 use Rattle.rules.specs.Core.{Un, Bin}
 use Rattle.rules.specs.Meaning.{Ev, val, stop, ill, unop, binop, load, storable, loadD, passes}
 use Rattle.rules.specs.Codes.{Instr, TICK, CONST, LOAD, STORE, UN, BIN, JUMP, JZ, JNZ, SPAN, DROP, HOLD, FIRST, NEXT, HALT, BAD, decode}
-use Rattle.rules.specs.Machine.{end, isTick, pushE, Code, okJump, jumpTo, push, pushR, firstOn, nextOn, act, step, codeIn}
+use Rattle.rules.specs.Machine.{state, end, isTick, pushE, Code, okJump, jumpTo, push, pushR, firstOn, nextOn, act, step, codeIn}
 use Rattle.machine.specs.Stepping.{View, After, view, over, ticked, holding, pushed, topOf, below, popped, halted, off, on, only, after, does, stepped}
 use Rattle.machine.specs.declared.Machine.{Machine}
 use Rattle.machine.specs.declared.Stop.the-variants.{Done, Spent, Broken}
@@ -274,3 +274,8 @@ module _ (Γ : List Ty) (code : List ℕ) (b : ℕ) (m : Machine) (t : List ℤ)
   unfolding stepped step does after codeIn
   step-is k h p q =
       rw (le-leb (m .height) stackLimit k, lt-ltb (m .at) (length code) h, step, after) (p ∙ ap (λ (i : Instr). does whole b i (view m) t) q)
+
+  -- of a machine within the limit a step is the rules'
+  pub step-within : m .height ≤ stackLimit → stepped whole b m t ≡ after b (view m) t (step whole (state (m .at) (view m .stack) (m .held) t))
+  unfolding stepped
+  step-within k = rw (le-leb (m .height) stackLimit k)

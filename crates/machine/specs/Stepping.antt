@@ -5,8 +5,8 @@ use mathlib.Core.List.{List, [], _∷_}
 use Prim.Native.Nat.{ℕ, zero, suc, _+_, _≤_, _<_}
 use lib.Dec.{ltb, leb}
 use lib.IntN.{ℤ, pos}
-use lib.ListN.{getD, set}
-use Rattle.rules.specs.Limits.{stackLimit}
+use lib.ListN.{getD, set, replicate}
+use Rattle.rules.specs.Limits.{stackLimit, forLimit}
 use Rattle.rules.specs.Numbers.{Ty}
 use Rattle.rules.specs.Codes.{Instr, TICK, STORE}
 use Rattle.rules.specs.Meaning.{Table, Stop as End, done, spent, range, divide, ill}
@@ -152,9 +152,9 @@ Goes code r a m low =
 abbrev pub Answers : Step → Answer → Machine → Machine → Type 0
 Answers r a m low = (budget : ℕ) (t : Table) → only t (move r) ≡ after budget (view m) t (pushE (evOf a) (m .at + 1) (view low .stack) (m .held) t)
 
--- at the start: an empty stack, and eight held final values of 0
+-- at the start: an empty stack, and held final values of 0
 abbrev pub fresh : View
-fresh = record { at = 0; stack = []; held = pos 0 ∷ pos 0 ∷ pos 0 ∷ pos 0 ∷ pos 0 ∷ pos 0 ∷ pos 0 ∷ pos 0 ∷ []; ticks = 0 }
+fresh = record { at = 0; stack = []; held = replicate forLimit (pos 0); ticks = 0 }
 
 -- what a machine must be for n bytes to be carried out: its stack is within the limit, and the offset behind them is a number
 pub record Ready (n : ℕ) (m : Machine) : Type 0 where

@@ -53,9 +53,9 @@ impl Machine {
         ensures { λ r. ⌜ (view r ≡ fresh) × (r .height ≡ 0) ⌝ }
     {
         Machine {
-            stack: [0; 32],
+            stack: [0; Machine::STACK],
             height: 0,
-            held: [0; 8],
+            held: [0; Machine::HELD],
             at: 0,
             ticks: 0,
         }

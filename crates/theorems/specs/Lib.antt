@@ -4,6 +4,7 @@ pub mod Tests
 pub mod Running
 pub mod Instructions
 pub mod StackLimit
+pub mod Height
 -- The meaning: ticks fall, fuel is enough, what a run keeps, types, the worst case
 pub mod Remainder
 pub mod TicksFall

@@ -28,7 +28,7 @@ use Rattle.theorems.specs.Tests.{leb-t}
 use Rattle.rules.specs.Depth.{depthL}
 use Rattle.rules.specs.Worst.{figure, worstL}
 
-types-length : (vs : L.List Variable) → length (types vs) ≡ length vs
+pub types-length : (vs : L.List Variable) → length (types vs) ≡ length vs
 unfolding types
 types-length [] = refl
 types-length (v ∷ vs) = ap suc (types-length vs)

@@ -1,0 +1,4 @@
+-- The laws that belong to no one function.
+pub mod Progress
+pub mod Tables
+pub mod Images
