@@ -6,10 +6,12 @@ use lib.ListN.{getD}
 use Rattle.rules.specs.Bytes.{of2, of4}
 use Rattle.rules.specs.Core as Core
 use Rattle.rules.specs.Codes.{Instr, TICK, CONST, LOAD, STORE, UN, BIN, JUMP, JZ, JNZ, SPAN, DROP, HOLD, FIRST, NEXT, HALT, BAD}
+use Rattle.codes.specs.declared.Prefix.{Prefix}
+use Rattle.codes.specs.declared.Prefix.the-variants.{Neg, Not}
 use Rattle.codes.specs.declared.Operator.{Operator}
 use Rattle.codes.specs.declared.Operator.the-variants.{Mul, Div, Mod, Add, Sub, Lt, Gt, Le, Ge, Eq, Ne, And, Xor, Or}
 use Rattle.codes.specs.declared.Instruction.{Instruction}
-use Rattle.codes.specs.declared.Instruction.the-variants.{Bad, Tick, Const, Load, Store, Neg, Not, Binary, Jump, JumpZero, JumpNot, Span, Drop, Hold, First, Next, Halt}
+use Rattle.codes.specs.declared.Instruction.the-variants.{Bad, Tick, Const, Load, Store, Unary, Binary, Jump, JumpZero, JumpNot, Span, Drop, Hold, First, Next, Halt}
 
 -- how many operand bytes follow each code, 0 to 29
 abbrev pub lengths : List ℕ
@@ -24,6 +26,10 @@ abbrev pub valueAt : List ℕ → ℕ → ℤ
 valueAt s at = of4 (getD s at 0) (getD s (at + 1) 0) (getD s (at + 2) 0) (getD s (at + 3) 0)
 
 -- the operators of the rules
+abbrev pub unOf : Prefix → Core.Un
+unOf Neg = Core.Neg
+unOf Not = Core.Not
+
 abbrev pub binOf : Operator → Core.Bin
 binOf Mul = Core.Mul
 binOf Div = Core.Div
@@ -47,8 +53,7 @@ instrOf Tick = TICK
 instrOf (Const v) = CONST v
 instrOf (Load slot) = LOAD slot
 instrOf (Store slot) = STORE slot
-instrOf Neg = UN Core.Neg
-instrOf Not = UN Core.Not
+instrOf (Unary o) = UN (unOf o)
 instrOf (Binary o) = BIN (binOf o)
 instrOf (Jump to) = JUMP to
 instrOf (JumpZero to) = JZ to

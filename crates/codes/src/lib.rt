@@ -6,6 +6,13 @@ ghost use lib.ListN.{length, getD, drop};
 ghost use Rattle.rules.specs.Codes.{BIN, decodeOp, decode};
 ghost use Rattle.codes.specs.Table.{lengths, wordAt, valueAt, binOf, instrOf};
 
+// The operators before an operand.
+pub enum Prefix {
+    Neg,
+    Not,
+}
+
+// The operators between operands.
 pub enum Operator {
     Mul,
     Div,
@@ -37,8 +44,7 @@ pub enum Instruction {
     Const(i32),
     Load(usize),
     Store(usize),
-    Neg,
-    Not,
+    Unary(Prefix),
     Binary(Operator),
     Jump(usize),
     JumpZero(usize),
@@ -158,8 +164,8 @@ fn read(s: &[u8], at: usize, code: u8) -> Instruction
         2 => Instruction::Const(value(s, at)),
         3 => Instruction::Load(wide(s[at])),
         4 => Instruction::Store(wide(s[at])),
-        5 => Instruction::Neg,
-        6 => Instruction::Not,
+        5 => Instruction::Unary(Prefix::Neg),
+        6 => Instruction::Unary(Prefix::Not),
         7..=20 => Instruction::Binary(operator_of(code)),
         21 => Instruction::Jump(word(s, at)),
         22 => Instruction::JumpZero(word(s, at)),

@@ -1,21 +1,23 @@
 -- Laws of what each instruction makes of a machine: one for each way that it can go. Assumes nothing.
 use mathlib.Core.Path.{_≡_, refl, sym, ap, _∙_}
-use mathlib.Core.Bool.{Bool, true, false, not, _||_, _&&_}
+use mathlib.Core.Bool.{Bool, true, false, _||_}
 use mathlib.Core.List.{List, [], _∷_}
 use Prim.Native.Nat.{ℕ, _+_, _≤_, _<_}
 use native.Mathlib.Omega.{arith}
 use lib.Dec.{ltb}
 use lib.IntN.{ℤ, pos, _+ℤ_}
 use lib.ListN.{length, getD, set, drop}
-use borrow.Author.Tests.{lt-ltb, le-ltb, le-leb, lt-leb}
-use Rattle.rules.specs.Limits.{stackLimit}
-use Rattle.rules.specs.Numbers.{Ty, dint, between, holds, isDint, ofBool, isZero}
+use borrow.Author.Tests.{ltb-true, lt-ltb, le-ltb, le-leb, lt-leb, not-true, not-false}
+use Rattle.rules.specs.Limits.{stackLimit, forLimit}
+use Rattle.rules.specs.Numbers.{Ty, dint, between, holds, ofBool, isZero}
 use Rattle.rules.specs.Core.{Un, Bin}
 use Rattle.rules.specs.Meaning.{Ev, val, stop, ill, unop, binop, load, storable, loadD, passes}
 use Rattle.rules.specs.Codes.{Instr, TICK, CONST, LOAD, STORE, UN, BIN, JUMP, JZ, JNZ, SPAN, DROP, HOLD, FIRST, NEXT, HALT, BAD, decode}
 use Rattle.rules.specs.Machine.{state, end, isTick, pushE, Code, okJump, jumpTo, push, pushR, firstOn, nextOn, act, step, codeIn}
-use Rattle.machine.specs.Stepping.{View, After, view, over, ticked, holding, pushed, topOf, below, popped, halted, off, on, only, after, does, stepped}
+use Rattle.codes.specs.declared.Loop.{Loop}
+use Rattle.machine.specs.Stepping.{View, After, view, over, ticked, holding, pushed, topOf, below, popped, halted, off, on, only, after, does, stepped, branchOf, taken, mayCount}
 use Rattle.machine.specs.declared.Machine.{Machine}
+use Rattle.machine.proofs.Counting.{Allowed, allowed, loaded, unloaded}
 use Rattle.machine.specs.declared.Stop.the-variants.{Done, Spent, Broken}
 
 -- ---- the stack
@@ -57,13 +59,13 @@ module _ (Γ : List Ty) (code : List ℕ) (b : ℕ) (s : View) (t : List ℤ) wh
   bad = refl
 
   -- ---- a push
-  pub put-on : (n : ℕ) (v : ℤ) → length (s .stack) < 32 → only t (on n (pushed v s)) ≡ after b s t (push c v (s .at + n) (s .stack) (s .held) t)
+  pub put-on : (n : ℕ) (v : ℤ) → length (s .stack) < stackLimit → only t (on n (pushed v s)) ≡ after b s t (push c v (s .at + n) (s .stack) (s .held) t)
   unfolding push after codeIn
-  put-on n v h = rw (lt-ltb (length (s .stack)) 32 h, push, after)
+  put-on n v h = rw (lt-ltb (length (s .stack)) stackLimit h, push, after)
 
-  pub put-out : (n : ℕ) (v : ℤ) → 32 ≤ length (s .stack) → only t (halted Broken s) ≡ after b s t (push c v (s .at + n) (s .stack) (s .held) t)
+  pub put-out : (n : ℕ) (v : ℤ) → stackLimit ≤ length (s .stack) → only t (halted Broken s) ≡ after b s t (push c v (s .at + n) (s .stack) (s .held) t)
   unfolding push after codeIn
-  put-out n v h = rw (le-ltb (length (s .stack)) 32 h, push, after)
+  put-out n v h = rw (le-ltb (length (s .stack)) stackLimit h, push, after)
 
   pub const-is : (v : ℤ) → after b s t (push c v (s .at + 5) (s .stack) (s .held) t) ≡ does c b (CONST v) s t
   unfolding does act
@@ -83,19 +85,11 @@ module _ (Γ : List Ty) (code : List ℕ) (b : ℕ) (s : View) (t : List ℤ) wh
 
   pub load-out : (k : ℕ) → length t ≤ k → only t (halted Broken s) ≡ does c b (LOAD k) s t
   unfolding does act pushR pushE after codeIn
-  load-out k h = by (ltb (length (s .stack)) 32) ∙ ap (λ (e : Ev). after b s t (pushR c e (s .at + 2) (s .stack) (s .held) t)) (sym (load-none k h))
+  load-out k h = by (ltb (length (s .stack)) stackLimit) ∙ ap (λ (e : Ev). after b s t (pushR c e (s .at + 2) (s .stack) (s .held) t)) (sym (load-none k h))
     where
       by : (d : Bool) → only t (halted Broken s) ≡ after b s t (elim d [ true ↦ end ill | false ↦ end ill ])
       by true = refl
       by false = refl
-
-  loop-none : (k : ℕ) (d : ℤ) → length t ≤ k → loadD Γ t k d ≡ stop ill
-  unfolding loadD
-  loop-none k d h = by (isDint (getD Γ k dint) && not (isZero d)) (load t k) (load-none k h)
-    where
-      by : (q : Bool) (e : Ev) → e ≡ stop ill → _≡_ {A = Ev} (elim q [ true ↦ e | false ↦ stop ill ]) (stop ill)
-      by true e p = p
-      by false e p = refl
 
   pub span-is : (lo hi : ℤ) → 1 ≤ length (s .stack) → after b s t (push c (ofBool (between lo hi (topOf (s .stack)))) (s .at + 9) (s .stack) (s .held) t) ≡ does c b (SPAN lo hi) s t
   unfolding act
@@ -189,72 +183,77 @@ module _ (Γ : List Ty) (code : List ℕ) (b : ℕ) (s : View) (t : List ℤ) wh
   unfolding does act
   jump-is to = refl
 
-  module _ (to : ℕ) where
-    pub zero-on : 1 ≤ length (s .stack) → isZero (topOf (s .stack)) ≡ true → after b s t (jumpTo c (s .at) to (below (s .stack)) (s .held) t) ≡ does c b (JZ to) s t
-    unfolding act
-    zero-on h e = rw (← one (JZ to) h, e, act)
+  -- a branch: taken, not taken, and with nothing on the stack
+  pub branch-on : (z : Bool) (a : ℕ) → 1 ≤ length (s .stack) → taken z (isZero (topOf (s .stack))) ≡ true
+      → after b s t (jumpTo c (s .at) a (below (s .stack)) (s .held) t) ≡ does c b (branchOf z a) s t
+  unfolding act
+  branch-on true a h e = rw (← one (JZ a) h, e, act)
+  branch-on false a h e = rw (← one (JNZ a) h, not-true (isZero (topOf (s .stack))) e, act)
 
-    pub zero-not : 1 ≤ length (s .stack) → isZero (topOf (s .stack)) ≡ false → only t (on 3 (popped s)) ≡ does c b (JZ to) s t
-    unfolding act after
-    zero-not h e = rw (← one (JZ to) h, e, act, after)
+  pub branch-not : (z : Bool) (a : ℕ) → 1 ≤ length (s .stack) → taken z (isZero (topOf (s .stack))) ≡ false
+      → only t (on 3 (popped s)) ≡ does c b (branchOf z a) s t
+  unfolding act after
+  branch-not true a h e = rw (← one (JZ a) h, e, act, after)
+  branch-not false a h e = rw (← one (JNZ a) h, not-false (isZero (topOf (s .stack))) e, act, after)
 
-    pub zero-none : length (s .stack) < 1 → only t (halted Broken s) ≡ does c b (JZ to) s t
-    unfolding act after
-    zero-none h = nil (JZ to) h
+  pub branch-none : (z : Bool) (a : ℕ) → length (s .stack) < 1 → only t (halted Broken s) ≡ does c b (branchOf z a) s t
+  unfolding act after
+  branch-none true a h = nil (JZ a) h
+  branch-none false a h = nil (JNZ a) h
 
-    pub not-on : 1 ≤ length (s .stack) → isZero (topOf (s .stack)) ≡ false → after b s t (jumpTo c (s .at) to (below (s .stack)) (s .held) t) ≡ does c b (JNZ to) s t
-    unfolding act
-    not-on h e = rw (← one (JNZ to) h, e, act)
+  -- ---- FIRST, NEXT: the machine has eight held values
+  module _ (l : Loop) (eight : length (s .held) ≡ forLimit) where
+    abbrev asks : Bool
+    asks = mayCount Γ t (l .level) (l .slot) (l .step)
 
-    pub not-not : 1 ≤ length (s .stack) → isZero (topOf (s .stack)) ≡ true → only t (on 3 (popped s)) ≡ does c b (JNZ to) s t
-    unfolding act after
-    not-not h e = rw (← one (JNZ to) h, e, act, after)
+    abbrev variable : ℤ
+    variable = getD t (l .slot) (pos 0)
 
-    pub not-none : length (s .stack) < 1 → only t (halted Broken s) ≡ does c b (JNZ to) s t
-    unfolding act after
-    not-none h = nil (JNZ to) h
+    abbrev final : ℤ
+    final = getD (s .held) (l .level) (pos 0)
 
-  -- ---- FIRST, NEXT
-  module _ (l v : ℕ) (d : ℤ) (a : ℕ) where
-    pub first-level : length (s .held) ≤ l → only t (halted Broken s) ≡ does c b (FIRST l v d a) s t
-    unfolding does act after
-    first-level h = rw (le-ltb l (length (s .held)) h, does, act, after)
+    held : Allowed Γ t (l .level) (l .slot) (l .step) → ltb (l .level) (length (s .held)) ≡ true
+    held g = lt-ltb (l .level) (length (s .held)) (rw eight (g .level))
 
-    pub first-bad : l < length (s .held) → (isDint (getD Γ v dint) && not (isZero d)) ≡ false → only t (halted Broken s) ≡ does c b (FIRST l v d a) s t
-    unfolding does act after loadD firstOn codeIn
-    first-bad h e = rw (lt-ltb l (length (s .held)) h, e, does, act, after, loadD, firstOn)
+    -- the level is too large, or the variable has no value for them
+    data Cause : Type 0 where
+      level : ltb (l .level) (length (s .held)) ≡ false → Cause
+      other : ltb (l .level) (length (s .held)) ≡ true → loadD Γ t (l .slot) (l .step) ≡ stop ill → Cause
 
-    pub first-slot : l < length (s .held) → length t ≤ v → only t (halted Broken s) ≡ does c b (FIRST l v d a) s t
+    cause : asks ≡ false → Cause
+    cause e = by (ltb (l .level) (length (s .held))) refl
+      where
+        by : (x : Bool) → ltb (l .level) (length (s .held)) ≡ x → Cause
+        by false p = level p
+        by true p = other p (unloaded Γ t (l .level) (l .slot) (l .step) (rw eight at (ltb-true (l .level) (length (s .held)) p)) e)
+
+    pub first-bad : asks ≡ false → only t (halted Broken s) ≡ does c b (FIRST (l .level) (l .slot) (l .step) (l .to)) s t
     unfolding does act after firstOn codeIn
-    first-slot h e = rw (lt-ltb l (length (s .held)) h, loop-none v d e, does, act, after, firstOn)
+    first-bad e = elim (cause e) [ level p ↦ rw (p, does, act, after) | other p q ↦ rw (p, q, does, act, after, firstOn) ]
 
-    pub first-go : l < length (s .held) → v < length t → (isDint (getD Γ v dint) && not (isZero d)) ≡ true → passes d (getD t v (pos 0)) (getD (s .held) l (pos 0)) ≡ true → after b s t (jumpTo c (s .at) a (s .stack) (s .held) t) ≡ does c b (FIRST l v d a) s t
-    unfolding does act loadD load firstOn codeIn
-    first-go h j e f = rw (lt-ltb l (length (s .held)) h, e, lt-ltb v (length t) j, f, does, act, loadD, load, firstOn)
+    pub first-go : asks ≡ true → passes (l .step) variable final ≡ true
+        → after b s t (jumpTo c (s .at) (l .to) (s .stack) (s .held) t) ≡ does c b (FIRST (l .level) (l .slot) (l .step) (l .to)) s t
+    unfolding does act firstOn codeIn
+    first-go e f = let g = allowed Γ t (l .level) (l .slot) (l .step) e in rw (held g, loaded Γ t (l .level) (l .slot) (l .step) g, f, does, act, firstOn)
 
-    pub first-on : l < length (s .held) → v < length t → (isDint (getD Γ v dint) && not (isZero d)) ≡ true → passes d (getD t v (pos 0)) (getD (s .held) l (pos 0)) ≡ false → only t (on 9 s) ≡ does c b (FIRST l v d a) s t
-    unfolding does act loadD load firstOn codeIn after
-    first-on h j e f = rw (lt-ltb l (length (s .held)) h, e, lt-ltb v (length t) j, f, does, act, loadD, load, firstOn, after)
+    pub first-on : asks ≡ true → passes (l .step) variable final ≡ false
+        → only t (on 9 s) ≡ does c b (FIRST (l .level) (l .slot) (l .step) (l .to)) s t
+    unfolding does act firstOn codeIn after
+    first-on e f = let g = allowed Γ t (l .level) (l .slot) (l .step) e in rw (held g, loaded Γ t (l .level) (l .slot) (l .step) g, f, does, act, firstOn, after)
 
-    pub next-level : length (s .held) ≤ l → only t (halted Broken s) ≡ does c b (NEXT l v d a) s t
-    unfolding does act after
-    next-level h = rw (le-ltb l (length (s .held)) h, does, act, after)
-
-    pub next-bad : l < length (s .held) → (isDint (getD Γ v dint) && not (isZero d)) ≡ false → only t (halted Broken s) ≡ does c b (NEXT l v d a) s t
-    unfolding does act after loadD nextOn codeIn
-    next-bad h e = rw (lt-ltb l (length (s .held)) h, e, does, act, after, loadD, nextOn)
-
-    pub next-slot : l < length (s .held) → length t ≤ v → only t (halted Broken s) ≡ does c b (NEXT l v d a) s t
+    pub next-bad : asks ≡ false → only t (halted Broken s) ≡ does c b (NEXT (l .level) (l .slot) (l .step) (l .to)) s t
     unfolding does act after nextOn codeIn
-    next-slot h e = rw (lt-ltb l (length (s .held)) h, loop-none v d e, does, act, after, nextOn)
+    next-bad e = elim (cause e) [ level p ↦ rw (p, does, act, after) | other p q ↦ rw (p, q, does, act, after, nextOn) ]
 
-    pub next-go : (x : ℤ) → l < length (s .held) → v < length t → (isDint (getD Γ v dint) && not (isZero d)) ≡ true → passes d (getD t v (pos 0) +ℤ d) (getD (s .held) l (pos 0)) ≡ false → getD t v (pos 0) +ℤ d ≡ x → after b s t (jumpTo c (s .at) a (s .stack) (s .held) (set t v x)) ≡ does c b (NEXT l v d a) s t
-    unfolding does act loadD load nextOn codeIn
-    next-go x h j e f g = rw (lt-ltb l (length (s .held)) h, e, lt-ltb v (length t) j, f, g, does, act, loadD, load, nextOn)
+    pub next-go : (x : ℤ) → asks ≡ true → passes (l .step) (variable +ℤ l .step) final ≡ false → variable +ℤ l .step ≡ x
+        → after b s t (jumpTo c (s .at) (l .to) (s .stack) (s .held) (set t (l .slot) x)) ≡ does c b (NEXT (l .level) (l .slot) (l .step) (l .to)) s t
+    unfolding does act nextOn codeIn
+    next-go x e f h = let g = allowed Γ t (l .level) (l .slot) (l .step) e in rw (held g, loaded Γ t (l .level) (l .slot) (l .step) g, f, h, does, act, nextOn)
 
-    pub next-on : l < length (s .held) → v < length t → (isDint (getD Γ v dint) && not (isZero d)) ≡ true → passes d (getD t v (pos 0) +ℤ d) (getD (s .held) l (pos 0)) ≡ true → only t (on 9 s) ≡ does c b (NEXT l v d a) s t
-    unfolding does act loadD load nextOn codeIn after
-    next-on h j e f = rw (lt-ltb l (length (s .held)) h, e, lt-ltb v (length t) j, f, does, act, loadD, load, nextOn, after)
+    pub next-on : asks ≡ true → passes (l .step) (variable +ℤ l .step) final ≡ true
+        → only t (on 9 s) ≡ does c b (NEXT (l .level) (l .slot) (l .step) (l .to)) s t
+    unfolding does act nextOn codeIn after
+    next-on e f = let g = allowed Γ t (l .level) (l .slot) (l .step) e in rw (held g, loaded Γ t (l .level) (l .slot) (l .step) g, f, does, act, nextOn, after)
 
 -- ---- a whole step
 module _ (Γ : List Ty) (code : List ℕ) (b : ℕ) (m : Machine) (t : List ℤ) where

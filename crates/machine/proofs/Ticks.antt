@@ -12,15 +12,17 @@ use borrow.Author.Tests.{ne-eqb}
 use Rattle.rules.specs.Codes.{Instr, BAD, get1, get2, get4, readers, decodeOp, decode}
 use Rattle.rules.specs.Machine.{isTick}
 
-abbrev Plain : List (List ℕ → Instr) → Type 0
-Plain [] = Unit {0}
-Plain (f ∷ fs) = ((r : List ℕ) → isTick (f r) ≡ false) × Plain fs
+-- readers that read no TICK
+infixr 20 _&_
+data Plain : List (List ℕ → Instr) → Type 0 where
+  end : Plain []
+  _&_ : {f : List ℕ → Instr} {fs : List (List ℕ → Instr)} → ((r : List ℕ) → isTick (f r) ≡ false) → Plain fs → Plain (f ∷ fs)
 
-plain-at : (fs : List (List ℕ → Instr)) → Plain fs → (n : ℕ) (r : List ℕ) → isTick (getD fs n (λ r. BAD) r) ≡ false
+plain-at : {fs : List (List ℕ → Instr)} → Plain fs → (n : ℕ) (r : List ℕ) → isTick (getD fs n (λ r. BAD) r) ≡ false
 unfolding isTick
-plain-at [] p n r = refl
-plain-at (f ∷ fs) p zero r = p .0 r
-plain-at (f ∷ fs) p (suc n) r = plain-at fs (p .1) n r
+plain-at end n r = refl
+plain-at (f & fs) zero r = f r
+plain-at (f & fs) (suc n) r = plain-at fs n r
 
 get1-plain : (K : ℕ → List ℕ → Instr) → ((a : ℕ) (r : List ℕ) → isTick (K a r) ≡ false) → (r : List ℕ) → isTick (get1 r K) ≡ false
 unfolding get1 isTick
@@ -41,11 +43,32 @@ get4-plain K f (a ∷ b ∷ []) = refl
 get4-plain K f (a ∷ b ∷ d ∷ []) = refl
 get4-plain K f (a ∷ b ∷ d ∷ e ∷ r) = f _ r
 
+-- all from the second on
+plain : Plain (drop 2 readers)
+unfolding readers isTick
+plain =
+    get4-plain _ (λ z r. refl) &
+    get1-plain _ (λ i r. refl) &
+    get1-plain _ (λ i r. refl) &
+    (λ r. refl) & (λ r. refl) &
+    (λ r. refl) & (λ r. refl) & (λ r. refl) & (λ r. refl) & (λ r. refl) & (λ r. refl) & (λ r. refl) &
+    (λ r. refl) & (λ r. refl) & (λ r. refl) & (λ r. refl) & (λ r. refl) & (λ r. refl) & (λ r. refl) &
+    get2-plain _ (λ a r. refl) &
+    get2-plain _ (λ a r. refl) &
+    get4-plain _ (λ a. get4-plain _ (λ b r. refl)) &
+    get2-plain _ (λ a r. refl) &
+    (λ r. refl) &
+    get1-plain _ (λ l r. refl) &
+    get1-plain _ (λ l. get1-plain _ (λ v. get4-plain _ (λ s. get2-plain _ (λ a r. refl)))) &
+    get1-plain _ (λ l. get1-plain _ (λ v. get4-plain _ (λ s. get2-plain _ (λ a r. refl)))) &
+    (λ r. refl) &
+    end
+
 tick-op : (b : ℕ) (r : List ℕ) → isTick (decodeOp b r) ≡ eqb b 1
 unfolding decodeOp readers isTick
 tick-op zero r = refl
 tick-op (suc zero) r = refl
-tick-op (suc (suc n)) r = plain-at (drop 2 readers) (get4-plain _ (λ z r. refl), (get1-plain _ (λ z r. refl), (get1-plain _ (λ z r. refl), (λ r. refl, (λ r. refl, (λ r. refl, (λ r. refl, (λ r. refl, (λ r. refl, (λ r. refl, (λ r. refl, (λ r. refl, (λ r. refl, (λ r. refl, (λ r. refl, (λ r. refl, (λ r. refl, (λ r. refl, (λ r. refl, (get2-plain _ (λ z r. refl), (get2-plain _ (λ z r. refl), (get4-plain _ (λ z. get4-plain _ (λ y r. refl)), (get2-plain _ (λ z r. refl), (λ r. refl, (get1-plain _ (λ z r. refl), (get1-plain _ (λ l. get1-plain _ (λ v. get4-plain _ (λ z. get2-plain _ (λ a r. refl)))), (get1-plain _ (λ l. get1-plain _ (λ v. get4-plain _ (λ z. get2-plain _ (λ a r. refl)))), (λ r. refl, tt)))))))))))))))))))))))))))) n r ∙ sym (ne-eqb (suc (suc n)) 1 (λ e. omega arith))
+tick-op (suc (suc n)) r = plain-at plain n r ∙ sym (ne-eqb (suc (suc n)) 1 (λ e. omega arith))
 
 pub tick-there : (code : List ℕ) (target : ℕ) → target < length code → eqb (getD code target 0) 1 ≡ isTick (decode (drop target code))
 unfolding decode

@@ -1,14 +1,14 @@
 -- The machine that the code holds, seen as a state of the rules; and what a step of the rules makes of it.
 use mathlib.Core.Path.{_≡_}
-use mathlib.Core.Bool.{Bool, true, false}
+use mathlib.Core.Bool.{Bool, true, false, not, _&&_}
 use mathlib.Core.List.{List, [], _∷_}
 use Prim.Native.Nat.{ℕ, zero, suc, _+_, _≤_, _<_}
 use lib.Dec.{ltb, leb}
 use lib.IntN.{ℤ, pos}
-use lib.ListN.{getD, set, replicate}
+use lib.ListN.{length, getD, set, replicate}
 use Rattle.rules.specs.Limits.{stackLimit, forLimit}
-use Rattle.rules.specs.Numbers.{Ty}
-use Rattle.rules.specs.Codes.{Instr, TICK, STORE}
+use Rattle.rules.specs.Numbers.{Ty, dint, isDint, isZero}
+use Rattle.rules.specs.Codes.{Instr, TICK, STORE, JZ, JNZ}
 use Rattle.rules.specs.Meaning.{Table, Stop as End, done, spent, range, divide, ill}
 use Rattle.rules.specs.Machine.{state, Step as Deed, on as goOn, tk, end, pushE, Code, jumpTo, push, act, step, codeIn}
 use Rattle.arith.specs.Exact.{evOf}
@@ -151,6 +151,19 @@ Goes code r a m low =
 
 abbrev pub Answers : Step → Answer → Machine → Machine → Type 0
 Answers r a m low = (budget : ℕ) (t : Table) → only t (move r) ≡ after budget (view m) t (pushE (evOf a) (m .at + 1) (view low .stack) (m .held) t)
+
+-- the two branches, and whether one is taken at a value that is zero or not
+abbrev pub branchOf : Bool → ℕ → Instr
+branchOf true a = JZ a
+branchOf false a = JNZ a
+
+abbrev pub taken : Bool → Bool → Bool
+taken true z = z
+taken false z = not z
+
+-- what FIRST and NEXT ask: a level and a slot that are there, a DINT, and a step that is not 0
+unfoldable pub mayCount : List Ty → Table → ℕ → ℕ → ℤ → Bool
+mayCount Γ t level slot step = ltb level forLimit && (ltb slot (length t) && (isDint (getD Γ slot dint) && not (isZero step)))
 
 -- at the start: an empty stack, and held final values of 0
 abbrev pub fresh : View

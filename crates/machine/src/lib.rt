@@ -1,23 +1,23 @@
 // The machine by value: its stack and held final values are its own, and each instruction gives the next machine.
-ghost use mathlib.Core.Bool.{_||_, _&&_, not};
+ghost use mathlib.Core.Bool.{_||_};
 ghost use mathlib.Core.Path.{_≡_};
 ghost use Prim.Native.Nat.{_+_, _-_, _≤_, _<_};
 ghost use lib.Dec.{ltb};
-ghost use lib.ListN.{getD, drop};
-ghost use Rattle.rules.specs.Core.{Neg, Not};
-ghost use Rattle.rules.specs.Codes.{CONST, LOAD, UN, BIN, JUMP, JZ, JNZ, SPAN, DROP, HOLD, FIRST, NEXT, lengthOf, decode};
+ghost use lib.ListN.{drop};
+ghost use Rattle.rules.specs.Codes.{CONST, LOAD, UN, BIN, JUMP, SPAN, DROP, HOLD, FIRST, NEXT, lengthOf, decode};
 ghost use Rattle.rules.specs.Limits.{stackLimit, forLimit};
 ghost use Rattle.rules.specs.Machine.{isTick, codeIn};
-ghost use Rattle.rules.specs.Numbers.{dint, isDint, isZero};
+ghost use Rattle.rules.specs.Numbers.{isZero};
 ghost use Rattle.arith.specs.Exact.{evOf};
-ghost use Rattle.codes.specs.Table.{instrOf, binOf};
+ghost use Rattle.codes.specs.Table.{unOf, binOf, instrOf};
 ghost use Rattle.image.specs.Parts.{typesIn};
-ghost use Rattle.machine.specs.Stepping.{view, move, only, over, holding, pushed, topOf, popped, halted, off, on, does, stepped, Does, DoesIn, DoesOn, Ticks, Stores, Turns, Puts, Goes, Answers, fresh, Ready, Under};
+ghost use Rattle.machine.specs.Stepping.{view, move, only, over, holding, pushed, topOf, popped, halted, off, on, does, stepped, Does, DoesIn, DoesOn, Ticks, Stores, Turns, Puts, Goes, Answers, branchOf, taken, mayCount, fresh, Ready, Under};
 use arith::Advance;
 use arith::Answer;
 use codes::Instruction;
 use codes::Loop;
 use codes::Operator;
+use codes::Prefix;
 
 pub struct Machine {
     pub stack: [i32; Machine::STACK],
@@ -205,26 +205,15 @@ impl Machine {
         }
     }
 
-    fn negate(self) -> Step
+    fn unary(self, o: Prefix) -> Step
         requires { ⌜ Ready 1 self ⌝ }
-        ensures { λ r. ⌜ Does r (UN Neg) self ⌝ }
+        ensures { λ r. ⌜ Does r (UN (unOf o)) self ⌝ }
     {
         let h = self.height;
         if h < 1 {
             return self.halt(Stop::Broken);
         }
-        self.answer(self.pop(), arith::neg(self.top()))
-    }
-
-    fn invert(self) -> Step
-        requires { ⌜ Ready 1 self ⌝ }
-        ensures { λ r. ⌜ Does r (UN Not) self ⌝ }
-    {
-        let h = self.height;
-        if h < 1 {
-            return self.halt(Stop::Broken);
-        }
-        self.answer(self.pop(), operators::invert(self.top()))
+        self.answer(self.pop(), operators::apply_prefix(o, self.top()))
     }
 
     fn binary(self, o: Operator) -> Step
@@ -260,33 +249,19 @@ impl Machine {
         self.go(self, code, target)
     }
 
-    fn jump_zero(self, code: &[u8], target: usize) -> Step
+    // A jump if the top is zero, or if it is not.
+    fn branch(self, code: &[u8], target: usize, zero: bool) -> Step
         requires { ⌜ Ready 3 self ⌝ }
-        ensures { λ r. ⌜ DoesIn (now (code .entry)) r (JZ target) self ⌝ }
+        ensures { λ r. ⌜ DoesIn (now (code .entry)) r (branchOf zero target) self ⌝ }
     {
         let h = self.height;
         if h < 1 {
             return self.halt(Stop::Broken);
         }
-        if arith::is_zero(self.top()) {
+        if is_taken(zero, self.top()) {
             self.go(self.pop(), code, target)
         } else {
             self.pop().advance(3)
-        }
-    }
-
-    fn jump_not(self, code: &[u8], target: usize) -> Step
-        requires { ⌜ Ready 3 self ⌝ }
-        ensures { λ r. ⌜ DoesIn (now (code .entry)) r (JNZ target) self ⌝ }
-    {
-        let h = self.height;
-        if h < 1 {
-            return self.halt(Stop::Broken);
-        }
-        if arith::is_zero(self.top()) {
-            self.pop().advance(3)
-        } else {
-            self.go(self.pop(), code, target)
         }
     }
 
@@ -335,20 +310,15 @@ impl Machine {
         let slot = l.slot;
         let target = l.to;
         let by = l.step;
-        if Machine::HELD <= level {
+        if !may_count(l, vars, table) {
             return self.halt(Stop::Broken);
         }
-        if table.len() <= slot {
-            return self.halt(Stop::Broken);
+        let held = self.held;
+        if arith::passes(table[slot], by, held[level]) {
+            self.go(self, code, target)
+        } else {
+            self.advance(9)
         }
-        if counts(vars, slot, by) {
-            let held = self.held;
-            if arith::passes(table[slot], by, held[level]) {
-                return self.go(self, code, target);
-            }
-            return self.advance(9);
-        }
-        self.halt(Stop::Broken)
     }
 
     fn next(self, l: Loop, code: &[u8], vars: &[u8], table: &mut [i32]) -> Step
@@ -359,24 +329,18 @@ impl Machine {
         let slot = l.slot;
         let target = l.to;
         let by = l.step;
-        if Machine::HELD <= level {
+        if !may_count(l, vars, table) {
             return self.halt(Stop::Broken);
         }
-        if table.len() <= slot {
-            return self.halt(Stop::Broken);
-        }
-        if counts(vars, slot, by) {
-            let held = self.held;
-            let a = arith::advanced(table[slot], by, held[level]);
-            let Advance::Steps(v) = a else {
-                return self.advance(9);
-            };
-            let at = self.at;
-            if may_jump(at, code, target) {
-                table[slot] = v;
-                return self.leap(target);
-            }
-            return self.halt(Stop::Broken);
+        let held = self.held;
+        let a = arith::advanced(table[slot], by, held[level]);
+        let Advance::Steps(v) = a else {
+            return self.advance(9);
+        };
+        let at = self.at;
+        if may_jump(at, code, target) {
+            table[slot] = v;
+            return self.leap(target);
         }
         self.halt(Stop::Broken)
     }
@@ -399,12 +363,11 @@ impl Machine {
             Instruction::Const(v) => self.constant(v),
             Instruction::Load(slot) => self.load(table, slot),
             Instruction::Store(slot) => self.store(vars, table, slot),
-            Instruction::Neg => self.negate(),
-            Instruction::Not => self.invert(),
+            Instruction::Unary(o) => self.unary(o),
             Instruction::Binary(o) => self.binary(o),
             Instruction::Jump(target) => self.jump(code, target),
-            Instruction::JumpZero(target) => self.jump_zero(code, target),
-            Instruction::JumpNot(target) => self.jump_not(code, target),
+            Instruction::JumpZero(target) => self.branch(code, target, true),
+            Instruction::JumpNot(target) => self.branch(code, target, false),
             Instruction::Span(lowest, highest) => self.span(lowest, highest),
             Instruction::Drop => self.discard(),
             Instruction::Hold(level) => self.keep(level),
@@ -451,12 +414,32 @@ fn may_jump(at: usize, code: &[u8], target: usize) -> bool
     is_tick(code, target)
 }
 
-// Whether a FOR may count in a variable by this step: it is a DINT, and the step is not 0.
-fn counts(vars: &[u8], slot: usize, by: i32) -> bool
-    ensures { λ r. ⌜ r ≡ (isDint (getD (typesIn (now (vars .entry))) slot dint) && not (isZero by)) ⌝ }
+// Whether FIRST and NEXT may count: the level and the slot are there, the variable is a DINT, and the step is not 0.
+fn may_count(l: Loop, vars: &[u8], table: &[i32]) -> bool
+    ensures { λ r. ⌜ r ≡ mayCount (typesIn (now (vars .entry))) (now (table .entry)) (l .level) (l .slot) (l .step) ⌝ }
 {
+    let level = l.level;
+    let slot = l.slot;
+    let by = l.step;
+    if Machine::HELD <= level {
+        return false;
+    }
+    if table.len() <= slot {
+        return false;
+    }
     if image::is_dint(vars, slot) {
         return !arith::is_zero(by);
     }
     false
+}
+
+// Whether a branch is taken at this value.
+fn is_taken(zero: bool, v: i32) -> bool
+    ensures { λ r. ⌜ r ≡ taken zero (isZero v) ⌝ }
+{
+    if zero {
+        arith::is_zero(v)
+    } else {
+        !arith::is_zero(v)
+    }
 }

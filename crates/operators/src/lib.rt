@@ -5,9 +5,10 @@ ghost use Rattle.rules.specs.Core.{Not};
 ghost use Rattle.rules.specs.Meaning.{val, unop, logic, binop};
 ghost use Rattle.rules.specs.Numbers.{bool, holds, ofBool, isZero};
 ghost use Rattle.arith.specs.Exact.{evOf};
-ghost use Rattle.codes.specs.Table.{binOf};
+ghost use Rattle.codes.specs.Table.{unOf, binOf};
 use arith::Answer;
 use codes::Operator;
+use codes::Prefix;
 
 // TRUE is 1, FALSE is 0.
 pub fn flag(b: bool) -> i32
@@ -60,13 +61,22 @@ fn one_true(x: i32, y: i32) -> bool
     }
 }
 
-pub fn invert(x: i32) -> Answer
+fn invert(x: i32) -> Answer
     ensures { λ r. ⌜ evOf r ≡ unop Not x ⌝ }
 {
     if is_flag(x) {
         told(arith::is_zero(x))
     } else {
         Answer::Bad
+    }
+}
+
+pub fn apply_prefix(o: Prefix, x: i32) -> Answer
+    ensures { λ r. ⌜ evOf r ≡ unop (unOf o) x ⌝ }
+{
+    match o {
+        Prefix::Neg => arith::neg(x),
+        Prefix::Not => invert(x),
     }
 }
 

@@ -1,5 +1,6 @@
 -- `run::fill` meets its contract. Assumes nothing.
 use mathlib.Core.Path.{_≡_, refl, sym, ap, _∙_}
+use mathlib.Core.Bool.{true}
 use mathlib.Core.List.{List}
 use Prim.Native.Nat.{ℕ}
 use lib.ListN.{length}
@@ -12,9 +13,9 @@ use Rattle.run.proofs.Images.{as-many, fill-none, fill-other, fill-done
 use Rattle.run.proofs.fill.Statement.{statement}
 use Rattle.run.proofs.fill.Tie as tie
 
--- whether it is an image
-imaged : (c : tie.After-is-image) → isSome (imageIn (now (c .before .before .args .image))) ≡ c .is-image .result
-imaged c = sym (c .is-image .ensures)
+-- it is an image
+imaged : (c : tie.Else1) → isSome (imageIn (now (c .before .before .before .args .image))) ≡ true
+imaged c = sym (c .before .is-image .ensures) ∙ not-false _ (c .if1 .left)
 
 -- how many variables it has
 counted : (c : tie.After-count) → c .count .result ≡ length (typesIn (variablesPart (now (c .before .before .before .before .before .args .image))))
@@ -24,7 +25,7 @@ is-image-requires : tie.Need-is-image-requires
 is-image-requires c κs = search needs
 
 returns : tie.Need-returns
-returns c = fill-none _ _ (imaged (c .before) ∙ not-true _ (c .if1 .taken)) refl
+returns c = fill-none _ _ (sym (c .before .is-image .ensures) ∙ not-true _ (c .if1 .taken)) refl
 
 variables-requires : tie.Need-variables-requires
 variables-requires c κs = search needs
@@ -33,7 +34,7 @@ count-requires : tie.Need-count-requires
 count-requires c κs = search needs
 
 returns-2 : tie.Need-returns-2
-returns-2 c = fill-other _ _ (imaged (c .before .before .before .before) ∙ not-false _ (c .before .before .before .if1 .left)) (λ e. c .if2 .taken (e ∙ sym (counted (c .before)))) refl
+returns-2 c = fill-other _ _ (imaged (c .before .before .before)) (λ e. c .if2 .taken (e ∙ sym (counted (c .before)))) refl
 
 put-initials-requires : tie.Need-put-initials-requires
 put-initials-requires c κs = c .before .if2 .left ∙ c .before .before .count .ensures ∙ as-many _
@@ -43,7 +44,7 @@ same-length c = search needs
 
 returns-3 : tie.Need-returns-3
 returns-3 c =
-    fill-done _ _ (imaged (c .before .before .before .before .before .before .before) ∙ not-false _ (c .before .before .before .before .before .before .if1 .left)) (c .before .before .before .if2 .left ∙ counted (c .before .before .before .before))
+    fill-done _ _ (imaged (c .before .before .before .before .before .before)) (c .before .before .before .if2 .left ∙ counted (c .before .before .before .before))
     (rw (c .before .put-initials .ensures, c .before .before .before .before .before .variables .ensures) refl)
 
 pub fill-spec : {M : Type 1} → statement M

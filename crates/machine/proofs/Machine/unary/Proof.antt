@@ -1,14 +1,14 @@
--- `machine::Machine::negate` meets its contract. Assumes nothing.
+-- `machine::Machine::unary` meets its contract. Assumes nothing.
 use mathlib.Core.Path.{ap, _∙_}
 use native.Mathlib.Omega.{arith}
 use borrow.Author.Needs.{needs}
-use Rattle.rules.specs.Core.{Neg}
 use Rattle.rules.specs.Meaning.{unop}
+use Rattle.codes.specs.Table.{unOf}
 use Rattle.machine.specs.Stepping.{View, view, only}
 use Rattle.machine.proofs.Stack.{back, deep, shallow, under, answer-same}
 use Rattle.machine.proofs.Moves.{unary-on, unary-none}
-use Rattle.machine.proofs.Machine.negate.Statement.{statement}
-use Rattle.machine.proofs.Machine.negate.Tie as tie
+use Rattle.machine.proofs.Machine.unary.Statement.{statement}
+use Rattle.machine.proofs.Machine.unary.Tie as tie
 
 halt-requires : tie.Need-halt-requires
 halt-requires c κs = search needs
@@ -23,8 +23,8 @@ pop-requires c κs = search needs
 top-requires : tie.Need-top-requires
 top-requires c κs = search needs
 
-neg-requires : tie.Need-neg-requires
-neg-requires c κs = search needs
+apply-prefix-requires : tie.Need-apply-prefix-requires
+apply-prefix-requires c κs = search needs
 
 answer-requires : tie.Need-answer-requires
 answer-requires c κs =
@@ -37,18 +37,18 @@ returns-2 c =
     λ Γ code b t.
     c .answer .ensures b t
     ∙ answer-same b t (view (s .args .self))
-    (c .before .neg .ensures ∙ ap (unop Neg) (back (c .before .before .top .ok) ∙ c .before .before .top .ensures))
+    (c .before .apply-prefix .ensures ∙ ap (unop (unOf (s .args .o))) (back (c .before .before .top .ok) ∙ c .before .before .top .ensures))
     (ap (λ (v : View). v .stack) (c .before .before .before .pop .ensures .0))
     ∙ unary-on Γ code b (view (s .args .self)) t _ (deep _ _ _ (c .before .before .before .before .if1 .left))
 
-pub negate-spec : {M : Type 1} → statement M
-negate-spec =
+pub unary-spec : {M : Type 1} → statement M
+unary-spec =
     tie.close
     (tie.spec
     halt-requires
     returns
     pop-requires
     top-requires
-    neg-requires
+    apply-prefix-requires
     answer-requires
     returns-2)

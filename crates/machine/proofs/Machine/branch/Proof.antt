@@ -1,19 +1,24 @@
--- `machine::Machine::jump_zero` meets its contract. Assumes nothing.
+-- `machine::Machine::branch` meets its contract. Assumes nothing.
 use mathlib.Core.Path.{_≡_, sym, ap, _∙_}
+use lib.IntN.{ℤ}
 use denote.Ref.{now}
 use borrow.Author.Needs.{needs}
 use Rattle.rules.specs.Limits.{stackLimit}
 use Rattle.rules.specs.Numbers.{isZero}
 use Rattle.rules.specs.Machine.{jumpTo, codeIn}
-use Rattle.machine.specs.Stepping.{View, view, only, topOf, on, after}
+use Rattle.machine.specs.Stepping.{View, view, only, topOf, on, after, taken}
 use Rattle.machine.proofs.Stack.{back, deep, shallow, still, under}
-use Rattle.machine.proofs.Moves.{zero-on, zero-not, zero-none}
-use Rattle.machine.proofs.Machine.jump_zero.Statement.{statement}
-use Rattle.machine.proofs.Machine.jump_zero.Tie as tie
+use Rattle.machine.proofs.Moves.{branch-on, branch-not, branch-none}
+use Rattle.machine.proofs.Machine.branch.Statement.{statement}
+use Rattle.machine.proofs.Machine.branch.Tie as tie
 
--- whether the top is zero
-tested : (c : tie.After-is-zero) → isZero (topOf (view (c .before .before .before .before .args .self) .stack)) ≡ c .is-zero .result
-tested c = sym (c .is-zero .ensures ∙ ap isZero (back (c .before .top .ok) ∙ c .before .top .ensures))
+-- whether the branch is taken at the top
+tested : (c : tie.After-is-taken) →
+    let s = c .before .before .before .before in
+    taken (s .args .zero) (isZero (topOf (view (s .args .self) .stack))) ≡ c .is-taken .result
+tested c =
+    let s = c .before .before .before .before in
+    sym (c .is-taken .ensures ∙ ap (λ (z : ℤ). taken (s .args .zero) (isZero z)) (back (c .before .top .ok) ∙ c .before .top .ensures))
 
 halt-requires : tie.Need-halt-requires
 halt-requires c κs = search needs
@@ -21,13 +26,13 @@ halt-requires c κs = search needs
 returns : tie.Need-returns
 returns c =
     let s = c .before .before .before in
-    λ Γ b t. ap (only t) (c .halt .ensures) ∙ zero-none Γ (now (s .args .code)) b (view (s .args .self)) t _ (shallow _ _ _ (c .before .if1 .taken))
+    λ Γ b t. ap (only t) (c .halt .ensures) ∙ branch-none Γ (now (s .args .code)) b (view (s .args .self)) t (s .args .zero) (s .args .target) (shallow _ _ _ (c .before .if1 .taken))
 
 top-requires : tie.Need-top-requires
 top-requires c κs = search needs
 
-is-zero-requires : tie.Need-is-zero-requires
-is-zero-requires c κs = search needs
+is-taken-requires : tie.Need-is-taken-requires
+is-taken-requires c κs = search needs
 
 pop-requires : tie.Need-pop-requires
 pop-requires c κs = search needs
@@ -48,23 +53,23 @@ returns-2 c =
     λ Γ b t.
     c .go .ensures Γ b t
     ∙ ap (λ (v : View). after b (view m) t (jumpTo (codeIn Γ (now (s .args .code)) stackLimit) (m .at) (s .args .target) (v .stack) (m .held) t)) (c .before .pop .ensures .0)
-    ∙ zero-on Γ (now (s .args .code)) b (view m) t _ (deep _ _ _ (c .before .before .before .before .before .if1 .left)) (tested (c .before .before .before) ∙ c .before .before .if2 .taken)
+    ∙ branch-on Γ (now (s .args .code)) b (view m) t (s .args .zero) _ (deep _ _ _ (c .before .before .before .before .before .if1 .left)) (tested (c .before .before .before) ∙ c .before .before .if2 .taken)
 
 returns-3 : tie.Need-returns-3
 returns-3 c =
     let s = c .before .before .before .before .before .before .before in
     λ Γ b t.
     ap (only t) (c .advance .ensures ∙ ap (on 3) (c .before .pop2 .ensures .0))
-    ∙ zero-not Γ (now (s .args .code)) b (view (s .args .self)) t _ (deep _ _ _ (c .before .before .before .before .before .if1 .left)) (tested (c .before .before .before) ∙ c .before .before .if2 .left)
+    ∙ branch-not Γ (now (s .args .code)) b (view (s .args .self)) t (s .args .zero) _ (deep _ _ _ (c .before .before .before .before .before .if1 .left)) (tested (c .before .before .before) ∙ c .before .before .if2 .left)
 
-pub jump-zero-spec : {M : Type 1} → statement M
-jump-zero-spec =
+pub branch-spec : {M : Type 1} → statement M
+branch-spec =
     tie.close
     (tie.spec
     halt-requires
     returns
     top-requires
-    is-zero-requires
+    is-taken-requires
     pop-requires
     go-requires
     pop-requires-2
