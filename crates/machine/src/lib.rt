@@ -18,6 +18,7 @@ use codes::Instruction;
 use codes::Loop;
 use codes::Operator;
 use codes::Prefix;
+use rules::Limits;
 
 pub struct Machine {
     pub stack: [i32; Machine::STACK],
@@ -44,9 +45,9 @@ pub struct Step {
 }
 
 impl Machine {
-    pub const STACK: usize = 32;
+    pub const STACK: usize = Limits::STACK;
 
-    pub const HELD: usize = 8;
+    pub const HELD: usize = Limits::HELD_FINALS;
 
     // At the start the stack is empty, and the held final values are 0.
     pub fn new() -> Self
