@@ -1,7 +1,7 @@
 //! The command `second`: the line protocol, the desk's line, or requests to compare programs with.
 
 use second::compile::desk_line;
-use second::generate::{random::Random, request};
+use second::generate::{edges, random::Random, request};
 use second::protocol::answer;
 use std::io::{self, BufRead, BufReader, BufWriter, Read, Write};
 use std::process::ExitCode;
@@ -38,10 +38,19 @@ fn requests(seed: u64, count: u64) -> io::Result<()> {
     output.flush()
 }
 
+fn edges() -> io::Result<()> {
+    let mut output = BufWriter::new(io::stdout().lock());
+    for request in edges::requests() {
+        writeln!(output, "{request}")?;
+    }
+    output.flush()
+}
+
 fn command(arguments: &[&str]) -> Option<io::Result<()>> {
     match arguments {
         [] | ["lines"] => Some(lines()),
         ["desk"] => Some(desk()),
+        ["edges"] => Some(edges()),
         ["requests", seed, count] => Some(requests(seed.parse().ok()?, count.parse().ok()?)),
         _ => None,
     }
@@ -57,7 +66,7 @@ fn main() -> ExitCode {
             ExitCode::FAILURE
         }
         None => {
-            eprintln!("usage: second [lines | desk | requests SEED COUNT]");
+            eprintln!("usage: second [lines | desk | edges | requests SEED COUNT]");
             ExitCode::FAILURE
         }
     }

@@ -206,3 +206,15 @@ fn the_program_prints_requests() {
     assert_eq!(answers.lines().count(), 50);
     assert!(!answers.contains("ERROR"));
 }
+
+#[test]
+fn the_program_prints_edges() {
+    let edges = second(&["edges"], b"");
+    let answers = second(&[], edges.as_bytes());
+    assert_eq!(answers.lines().count(), edges.lines().count());
+    for number in ["0", "20", "21", "22", "23", "24", "25"] {
+        let of_number = |line: &&str| line.split(' ').next() == Some(number);
+        assert!(answers.lines().filter(of_number).count() > 10, "{number}");
+    }
+    assert!(!answers.contains("ERROR"));
+}

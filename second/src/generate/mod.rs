@@ -1,5 +1,6 @@
 //! A seeded generator of texts, images, tables and budgets, and of requests that hold them.
 
+pub mod edges;
 pub mod faults;
 pub mod images;
 pub mod layout;

@@ -1,0 +1,15 @@
+-- What a contract says of a number that was read: where it is a length, a buffer has such a front. Assumes nothing.
+use mathlib.Core.List.{List}
+use mathlib.Core.Path.{_≡_, sym}
+use Prim.Native.Nat.{ℕ, _≤_}
+use lib.ListN.{length, take}
+use lib.Seq.{length-take-le}
+use Rattle.vectors.specs.Within.{Within}
+use Rattle.vectors.specs.declared.fields.Read.{Read}
+use Rattle.vectors.specs.declared.fields.Read.the-variants.{Number}
+
+pub at-most : {r : Read} {n most : ℕ} → r ≡ Number n → Within r most → n ≤ most
+at-most e w = rw e at w
+
+pub front : {A : Type 0} (l : List A) {r : Read} {n : ℕ} → r ≡ Number n → Within r (length l) → n ≡ length (take n l)
+front l e w = sym (length-take-le _ l (at-most e w))

@@ -1,0 +1,45 @@
+-- `vectors::serve_all` meets its contract. Assumes nothing.
+use borrow.Author.Needs.{needs}
+use Rattle.vectors.proofs.serve_all.Statement.{statement}
+use Rattle.vectors.proofs.serve_all.Tie as tie
+
+abbrev Inv-loop : tie.InvT-loop
+Inv-loop line₀ out₀ state₀ turns₀ line out state turns = Unit {0}
+
+abbrev μ-loop : tie.MeasureT-loop
+μ-loop line₀ out₀ state₀ turns₀ line out state turns = turns
+
+loop-holds : tie.Need-loop-holds Inv-loop μ-loop
+loop-holds c = search needs
+
+serve-some-requires : tie.Need-serve-some-requires Inv-loop μ-loop
+serve-some-requires c κs = search needs
+
+sub-turns : tie.Need-sub-turns Inv-loop μ-loop
+sub-turns c = search needs
+
+loop-less : tie.Need-loop-less Inv-loop μ-loop
+loop-less c = search needs
+
+loop-again : tie.Need-loop-again Inv-loop μ-loop
+loop-again c = search needs
+
+returns : tie.Need-returns Inv-loop μ-loop
+returns c = search needs
+
+returns-2 : tie.Need-returns-2 Inv-loop μ-loop
+returns-2 c = search needs
+
+pub serve-all-spec : {M : Type 1} → statement M
+serve-all-spec =
+    tie.close
+    (tie.spec
+    Inv-loop
+    μ-loop
+    loop-holds
+    serve-some-requires
+    sub-turns
+    loop-less
+    loop-again
+    returns
+    returns-2)

@@ -1,0 +1,62 @@
+// A request is read off its line, carried out and answered.
+use crate::answers;
+use crate::answers::Buffer;
+use crate::fields;
+use crate::fields::Read;
+
+// The longest image and the longest table that a request may have.
+const IMAGE: usize = 16384;
+
+const TABLE: usize = 128;
+
+fn run_on(image: &[u8], table: &mut [i32], budget: u32, out: &mut Buffer, waiting: usize) -> usize {
+    let report = run::run(image, table, budget);
+    answers::put_report(out, waiting, report, table)
+}
+
+fn fill_from(image: &[u8], table: &mut [i32], out: &mut Buffer, waiting: usize) -> usize {
+    let filled = run::fill(image, table);
+    answers::put_filled(out, waiting, filled, table)
+}
+
+// R IMAGE BUDGET TABLE
+fn answer_run(image: &[u8], line: &[u8], out: &mut Buffer, waiting: usize) -> usize {
+    let mut table = [0i32; TABLE];
+    let Read::Number(budget) = fields::read_number(fields::field(line, 2), 4294967295) else {
+        return answers::put_error(out, waiting);
+    };
+    let Read::Number(entries) = fields::read_table(fields::field(line, 3), &mut table) else {
+        return answers::put_error(out, waiting);
+    };
+    run_on(image, &mut table[..entries], budget as u32, out, waiting)
+}
+
+// F IMAGE COUNT
+fn answer_fill(image: &[u8], line: &[u8], out: &mut Buffer, waiting: usize) -> usize {
+    let mut table = [0i32; TABLE];
+    let Read::Number(entries) = fields::read_number(fields::field(line, 2), TABLE) else {
+        return answers::put_error(out, waiting);
+    };
+    fill_from(image, &mut table[..entries], out, waiting)
+}
+
+fn answer_on(image: &[u8], line: &[u8], out: &mut Buffer, waiting: usize) -> usize {
+    let n = fields::fields_in(line);
+    let letter = fields::field(line, 0);
+    if n == 4 && fields::is_byte(letter, b'R') {
+        return answer_run(image, line, out, waiting);
+    }
+    if n == 3 && fields::is_byte(letter, b'F') {
+        return answer_fill(image, line, out, waiting);
+    }
+    answers::put_error(out, waiting)
+}
+
+// Every request has its image first.
+pub fn answer(line: &[u8], out: &mut Buffer, waiting: usize) -> usize {
+    let mut image = [0u8; IMAGE];
+    let Read::Number(length) = fields::read_bytes(fields::field(line, 1), &mut image) else {
+        return answers::put_error(out, waiting);
+    };
+    answer_on(&image[..length], line, out, waiting)
+}
