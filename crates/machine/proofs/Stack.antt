@@ -47,9 +47,11 @@ down-length xs (suc n) = ap suc (down-length xs n)
 pub back : {z : ℤ} → mag z < 2147483648 → toZ w32 (ofZ w32 z) ≡ z
 back h = toZ-ofZ {w = w32} (sfits-of h)
 
+-- what a part makes of equal values is equal
 pub pushed-same : {u v : ℤ} {s t : View} → u ≡ v → s ≡ t → pushed u s ≡ pushed v t
 pushed-same p q = rw (p, q)
 
+-- how high the stack is, as the list
 pub deep : (xs : List ℤ) (h n : ℕ) → n ≤ h → n ≤ length (down xs h)
 deep xs h n p = rw (down-length xs h) p
 
@@ -60,9 +62,11 @@ shallow xs h n p = rw (down-length xs h) p
 pub still : {u v : View} (n : ℕ) → u ≡ v → v .at + n < 18446744073709551616 → u .at + n < 18446744073709551616
 still n e h = rw (ap (λ (v : View). v .at) e) h
 
+-- a machine that is another with a stack l is that other with its own stack
 pub under : (l : List ℤ) (s : View) {u : View} → u ≡ over l s → u ≡ over (u .stack) s
 under l s e = e ∙ ap (λ (k : List ℤ). over k s) (sym (ap (λ (s : View). s .stack) e))
 
+-- the same of equal parts
 pub answer-same : (b : ℕ) (t : List ℤ) (s : View) {e f : Ev} {l k : List ℤ} → e ≡ f → l ≡ k → after b s t (pushE e (s .at + 1) l (s .held) t) ≡ after b s t (pushE f (s .at + 1) k (s .held) t)
 answer-same b t s p q = rw (p, q)
 

@@ -28,5 +28,6 @@ pub extern "C" fn moffatrell_run(
 pub extern "C" fn moffatrell_fill(image: &[u8], table: &mut [i32]) -> u32
     ensures { λ r. ⌜ record { answer = r; table = now (table .exit) } ≡ fillImage (now (image .entry)) (now (table .entry)) ⌝ }
 {
-    run::fill(image, table).number()
+    let answer = run::fill(image, table);
+    answer.number()
 }

@@ -1,4 +1,5 @@
--- `run::carry_out` meets its contract. Assumes nothing.
+-- `run::carry_out` meets its contract. The loop keeps that the rest of the run, with the instructions counted so far, is the whole run (`Sound`).
+-- The measure is how many instructions may be left. Assumes nothing.
 use mathlib.Core.Path.{_≡_, refl, sym, _∙_}
 use Prim.Native.Nat.{_-_, _≤_, _<_}
 use native.Mathlib.Omega.{arith}

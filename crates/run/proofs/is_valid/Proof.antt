@@ -1,4 +1,5 @@
--- `run::is_valid` meets its contract. Assumes nothing.
+-- `run::is_valid` meets its contract. The loop keeps that all entries hold exactly if those from k on do. The measure is what is left of the table.
+-- Assumes nothing.
 use mathlib.Core.Path.{_≡_, refl, sym, ap, _∙_}
 use Prim.Native.Nat.{_-_, _≤_}
 use native.Mathlib.Omega.{arith}

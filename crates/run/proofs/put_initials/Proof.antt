@@ -1,4 +1,5 @@
--- `run::put_initials` meets its contract. Assumes nothing.
+-- `run::put_initials` meets its contract. The loop keeps that the entries below k are the initial values. The measure is what is left of the table.
+-- Assumes nothing.
 use mathlib.Core.Path.{_≡_, refl, _∙_}
 use Prim.Native.Nat.{ℕ, _-_, _≤_, _<_}
 use native.Mathlib.Omega.{arith}
