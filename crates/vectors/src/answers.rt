@@ -4,12 +4,12 @@ use libc::STDOUT_FILENO;
 use rules::Filled;
 use rules::Report;
 
-pub const ROOM: usize = 32768;
+pub(crate) const ROOM: usize = 32768;
 
-pub type Buffer = [u8; ROOM];
+pub(crate) type Buffer = [u8; ROOM];
 
 // Writes the bytes that wait. A write that fails has nobody to be told of it.
-pub fn flush(out: &[u8], waiting: usize) {
+pub(crate) fn flush(out: &[u8], waiting: usize) {
     if waiting <= out.len() {
         io::write_all(STDOUT_FILENO, &out[..waiting]);
     }
@@ -36,7 +36,7 @@ fn put_all(out: &mut Buffer, waiting: usize, bytes: &[u8]) -> usize {
     now
 }
 
-pub fn put_error(out: &mut Buffer, waiting: usize) -> usize {
+pub(crate) fn put_error(out: &mut Buffer, waiting: usize) -> usize {
     put_all(out, waiting, b"ERROR\n")
 }
 
@@ -97,7 +97,7 @@ fn put_table(out: &mut Buffer, waiting: usize, table: &[i32]) -> usize {
 }
 
 // What a run reports, and the table that it left.
-pub fn put_report(out: &mut Buffer, waiting: usize, report: Report, table: &[i32]) -> usize {
+pub(crate) fn put_report(out: &mut Buffer, waiting: usize, report: Report, table: &[i32]) -> usize {
     let outcome = report.outcome;
     let mut now = put_field(out, waiting, outcome.number() as u64);
     now = put_field(out, now, report.ticks as u64);
@@ -107,7 +107,7 @@ pub fn put_report(out: &mut Buffer, waiting: usize, report: Report, table: &[i32
 }
 
 // What filling answers, and the table if it was filled.
-pub fn put_filled(out: &mut Buffer, waiting: usize, filled: Filled, table: &[i32]) -> usize {
+pub(crate) fn put_filled(out: &mut Buffer, waiting: usize, filled: Filled, table: &[i32]) -> usize {
     let number = filled.number() as u64;
     if number != 0 {
         let before = put_number(out, waiting, number);

@@ -4,13 +4,13 @@ ghost use lib.ListN.{length};
 ghost use Rattle.vectors.specs.Within.{Within};
 
 // What a field gives: the number that it writes, or how many bytes or entries it writes.
-pub enum Read {
+pub(crate) enum Read {
     Number(usize),
     Wrong,
 }
 
 // A value that a field writes.
-pub enum Value {
+pub(crate) enum Value {
     Of(i32),
     Wrong,
 }
@@ -31,7 +31,7 @@ fn end_of(bytes: &[u8], from: usize, mark: u8) -> usize
 }
 
 // How many fields a line has: one more than spaces.
-pub fn fields_in(line: &[u8]) -> usize {
+pub(crate) fn fields_in(line: &[u8]) -> usize {
     let mut n = 1;
     let mut i = 0;
     while i < line.len() {
@@ -61,14 +61,14 @@ fn start_of(line: &[u8], index: usize) -> usize
 }
 
 // A field, counted from 0: empty if the line has no such field.
-pub fn field(line: &[u8], index: usize) -> &[u8] {
+pub(crate) fn field(line: &[u8], index: usize) -> &[u8] {
     let from = start_of(line, index);
     let to = end_of(line, from, b' ');
     &line[from..to]
 }
 
 // Whether a field is this byte and no other.
-pub fn is_byte(field: &[u8], byte: u8) -> bool {
+pub(crate) fn is_byte(field: &[u8], byte: u8) -> bool {
     if field.len() == 1 {
         field[0] == byte
     } else {
@@ -123,7 +123,7 @@ fn read_pairs(field: &[u8], bytes: &mut [u8]) -> Read
 }
 
 // The bytes that a field writes, put at the start of a buffer: how many.
-pub fn read_bytes(field: &[u8], bytes: &mut [u8]) -> Read
+pub(crate) fn read_bytes(field: &[u8], bytes: &mut [u8]) -> Read
     ensures { λ r. ⌜ Within r (length (now (bytes .exit))) ⌝ }
 {
     if is_byte(field, b'-') {
@@ -136,19 +136,19 @@ pub fn read_bytes(field: &[u8], bytes: &mut [u8]) -> Read
 }
 
 // The number that decimal digits write, up to a limit.
-pub fn read_number(field: &[u8], most: usize) -> Read
-    requires { ⌜ most < 4294967296 ⌝ }
+pub(crate) fn read_number(field: &[u8], most: u32) -> Read
     ensures { λ r. ⌜ Within r most ⌝ }
 {
     if field.len() == 0 {
         return Read::Wrong;
     }
+    let limit = most as usize;
     let mut n = 0;
     let mut i = 0;
     while i < field.len() {
         let d = digit(field[i]) as usize;
         n = 10 * n + d;
-        if 9 < d || most < n {
+        if 9 < d || limit < n {
             return Read::Wrong;
         }
         i += 1;
@@ -183,7 +183,7 @@ fn read_value(field: &[u8]) -> Value {
 }
 
 // The table that a field writes, put at the start of a buffer: how many entries.
-pub fn read_table(field: &[u8], table: &mut [i32]) -> Read
+pub(crate) fn read_table(field: &[u8], table: &mut [i32]) -> Read
     ensures { λ r. ⌜ Within r (length (now (table .exit))) ⌝ }
 {
     if is_byte(field, b'-') {

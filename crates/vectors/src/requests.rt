@@ -34,7 +34,7 @@ fn answer_run(image: &[u8], line: &[u8], out: &mut Buffer, waiting: usize) -> us
 // F IMAGE COUNT
 fn answer_fill(image: &[u8], line: &[u8], out: &mut Buffer, waiting: usize) -> usize {
     let mut table = [0i32; TABLE];
-    let Read::Number(entries) = fields::read_number(fields::field(line, 2), TABLE) else {
+    let Read::Number(entries) = fields::read_number(fields::field(line, 2), TABLE as u32) else {
         return answers::put_error(out, waiting);
     };
     fill_from(image, &mut table[..entries], out, waiting)
@@ -53,7 +53,7 @@ fn answer_on(image: &[u8], line: &[u8], out: &mut Buffer, waiting: usize) -> usi
 }
 
 // Every request has its image first.
-pub fn answer(line: &[u8], out: &mut Buffer, waiting: usize) -> usize {
+pub(crate) fn answer(line: &[u8], out: &mut Buffer, waiting: usize) -> usize {
     let mut image = [0u8; IMAGE];
     let Read::Number(length) = fields::read_bytes(fields::field(line, 1), &mut image) else {
         return answers::put_error(out, waiting);

@@ -1,4 +1,5 @@
 -- `vectors::fields::read_number` meets its contract. Assumes nothing.
+use mathlib.Core.Path.{_≡_}
 use Prim.Native.Nat.{_-_, _≤_}
 use lib.ListN.{length}
 use borrow.Author.Needs.{needs}
@@ -6,10 +7,10 @@ use Rattle.vectors.proofs.fields.read_number.Statement.{statement}
 use Rattle.vectors.proofs.fields.read_number.Tie as tie
 
 abbrev Inv-loop : tie.InvT-loop
-Inv-loop field most n₀ i₀ n i = (i ≤ length field) × (n ≤ most)
+Inv-loop field most limit n₀ i₀ n i = (i ≤ length field) × (n ≤ most) × (limit ≡ most)
 
 abbrev μ-loop : tie.MeasureT-loop
-μ-loop field most n₀ i₀ n i = length field - i
+μ-loop field most limit n₀ i₀ n i = length field - i
 
 returns : tie.Need-returns Inv-loop μ-loop
 returns c = search needs

@@ -7,6 +7,9 @@ use Rattle.vectors.proofs.requests.answer_fill.Tie as tie
 field-requires : tie.Need-field-requires
 field-requires c κs = search needs
 
+cast-read-number : tie.Need-cast-read-number
+cast-read-number c = search needs
+
 read-number-requires : tie.Need-read-number-requires
 read-number-requires c κs = search needs
 
@@ -39,6 +42,7 @@ answer-fill-spec =
     tie.close
     (tie.spec
     field-requires
+    cast-read-number
     read-number-requires
     enum-known-entries
     enum-told
