@@ -7,6 +7,7 @@ use lib.Dec.{ltb, leb}
 use lib.IntN.{ℤ, pos}
 use lib.ListN.{length, getD, set, replicate}
 use Rattle.rules.specs.Limits.{stackLimit, forLimit}
+use Rattle.rules.specs.Base.{pick}
 use Rattle.rules.specs.Numbers.{Ty, dint, isDint, isZero}
 use Rattle.rules.specs.Codes.{Instr, TICK, STORE, JZ, JNZ}
 use Rattle.rules.specs.Meaning.{Table, Stop as End, done, spent, range, divide, ill}
@@ -99,14 +100,10 @@ stopOf range = Range
 stopOf divide = Divide
 stopOf ill = Broken
 
-abbrev pub choose : {A : Type 0} → Bool → A → A → A
-choose true a b = a
-choose false a b = b
-
 -- what the rules' step leaves, with the ticks: one is taken if the budget has it, else the run is spent
 unfoldable pub after : ℕ → View → Table → Deed → After
 after budget v t (goOn (state p s h u)) = only u (off p (record { at = p; stack = s; held = h; ticks = v .ticks }))
-after budget v t tk = only t (choose (ltb (v .ticks) budget) (on 1 (ticked v)) (halted Spent v))
+after budget v t tk = only t (pick (ltb (v .ticks) budget) (λ _. on 1 (ticked v)) (λ _. halted Spent v))
 after budget v t (end o) = only t (halted (stopOf o) v)
 
 unfoldable pub does : Code → ℕ → Instr → View → Table → After
@@ -115,11 +112,13 @@ does c budget i v t = after budget v t (act c i (v .at) (v .stack) (v .held) t)
 -- a machine whose stack is over the limit is no state of the rules: it is stopped as bad code
 unfoldable pub stepped : Code → ℕ → Machine → Table → After
 stepped c budget m t =
-    choose (leb (m .height) stackLimit) (after budget (view m) t (step c (state (m .at) (down (m .stack) (m .height)) (m .held) t))) (only t (halted Broken (view m)))
+    pick (leb (m .height) stackLimit)
+    (λ _. after budget (view m) t (step c (state (m .at) (view m .stack) (m .held) t)))
+    (λ _. only t (halted Broken (view m)))
 
 -- The promises of the parts, each of what it needs and of everything else whatever it is
 
--- the instruction i; of no table and no code; of the code; of the table; of all
+-- what the instruction i does: whatever code and table; in this code; on this table; TICK, STORE; FIRST and NEXT
 abbrev pub Does : Step → Instr → Machine → Type 0
 Does r i m = (Γ : List Ty) (code : List ℕ) (budget : ℕ) (t : Table) → only t (move r) ≡ does (codeIn Γ code stackLimit) budget i (view m) t
 

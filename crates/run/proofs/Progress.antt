@@ -9,6 +9,7 @@ use lib.Dec.{ltb}
 use lib.ListN.{length}
 use borrow.Author.Tests.{ltb-true, ltb-false}
 use Rattle.rules.specs.Limits.{codeLimit, stackLimit}
+use Rattle.rules.specs.Base.{pick}
 use Rattle.rules.specs.Meaning.{Table, done, spent, range, divide, ill}
 use Rattle.rules.specs.Machine.{State, state, Step as Deed, on as goOn, tk, end, Code, Ran, bump, step, run, finish, adv, isTick, codeIn, start}
 use Rattle.rules.specs.Run.{Report, number, reportOf}
@@ -16,7 +17,7 @@ use Rattle.theorems.specs.Running.{pcOf, run-on, run-tick, run-spent, run-end}
 use Rattle.theorems.specs.StackLimit.{left-over, falls, falls-tick}
 use Rattle.theorems.specs.Height.{keeps}
 use Rattle.image.specs.Parts.{typesIn}
-use Rattle.machine.specs.Stepping.{View, After, only, on, halted, ticked, choose, after, fresh}
+use Rattle.machine.specs.Stepping.{View, After, only, on, halted, ticked, after, fresh}
 use Rattle.machine.specs.declared.Stop.{Stop}
 use Rattle.machine.specs.declared.Stop.the-variants.{Going, Done, Spent, Range, Divide, Broken}
 use Rattle.run.specs.Standing.{goesOn, endOf, lastCount, carriedOut}
@@ -83,8 +84,8 @@ module _ (c : Code) (b : ℕ) where
         }
     better-by tk e g = by (ltb (v .ticks) b) refl g
       where
-        by : (d : Bool) → ltb (v .ticks) b ≡ d → goesOn (choose d (on 1 (ticked v)) (halted Spent v) .stop) ≡ true
-            → Better v t (only t (choose d (on 1 (ticked v)) (halted Spent v)))
+        by : (d : Bool) → ltb (v .ticks) b ≡ d → goesOn (pick d (λ _. on 1 (ticked v)) (λ _. halted Spent v) .stop) ≡ true
+            → Better v t (only t (pick d (λ _. on 1 (ticked v)) (λ _. halted Spent v)))
         by true h g = ticks-on e (ltb-true (v .ticks) b h)
         by false h g = never g
     better-by (end done) e g = never g
@@ -107,8 +108,8 @@ module _ (c : Code) (b : ℕ) where
     over-by (goOn (state p s h u)) e g = never (sym g)
     over-by tk e g = by (ltb (v .ticks) b) refl g
       where
-        by : (d : Bool) → ltb (v .ticks) b ≡ d → goesOn (choose d (on 1 (ticked v)) (halted Spent v) .stop) ≡ false
-            → Over v t (only t (choose d (on 1 (ticked v)) (halted Spent v)))
+        by : (d : Bool) → ltb (v .ticks) b ≡ d → goesOn (pick d (λ _. on 1 (ticked v)) (λ _. halted Spent v) .stop) ≡ false
+            → Over v t (only t (pick d (λ _. on 1 (ticked v)) (λ _. halted Spent v)))
         by true h g = never (sym g)
         by false h g = spent-out e (ltb-false (v .ticks) b h)
     over-by (end done) e g = record { ticks = early; same = λ n. ap (bumps n) (run-end c (b - v .ticks) (at v t) done e) }
