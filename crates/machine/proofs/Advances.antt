@@ -1,11 +1,10 @@
 -- What a FOR's step does, from the code's answer. Assumes nothing.
 use mathlib.Core.Path.{_≡_, refl}
 use mathlib.Core.Bool.{Bool, true, false}
-use Prim.Native.Nat.{ℕ}
-use native.Mathlib.Omega.{arith}
 use lib.IntN.{ℤ, _+ℤ_}
 use Rattle.rules.specs.Meaning.{passes}
 use Rattle.arith.specs.Exact.{pickV, advanceOf}
+use Rattle.image.proofs.Options.{clash}
 use Rattle.arith.specs.declared.Advance.the-variants.{Ends, Steps}
 
 pub ends-is : (v step last : ℤ) → advanceOf v step last ≡ Ends → passes step (v +ℤ step) last ≡ true
@@ -14,12 +13,12 @@ ends-is v step last e = by (passes step (v +ℤ step) last) e
   where
     by : (d : Bool) → pickV d Ends (Steps (v +ℤ step)) ≡ Ends → d ≡ true
     by true e = refl
-    by false e = let z : _≡_ {A = ℕ} 0 1 = cc in absurd (omega arith)
+    by false e = clash (cc)
 
 pub steps-is : (v step last x : ℤ) → advanceOf v step last ≡ Steps x → (passes step (v +ℤ step) last ≡ false) × (v +ℤ step ≡ x)
 unfolding advanceOf
 steps-is v step last x e = by (passes step (v +ℤ step) last) e
   where
     by : (d : Bool) → pickV d Ends (Steps (v +ℤ step)) ≡ Steps x → (d ≡ false) × (v +ℤ step ≡ x)
-    by true e = let z : _≡_ {A = ℕ} 0 1 = cc in absurd (omega arith)
+    by true e = clash (cc)
     by false e = (refl, cc)

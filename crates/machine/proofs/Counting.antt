@@ -3,7 +3,6 @@ use mathlib.Core.Path.{_≡_, refl}
 use mathlib.Core.Bool.{Bool, true, false, not, _&&_}
 use mathlib.Core.List.{List}
 use Prim.Native.Nat.{ℕ, _<_}
-use native.Mathlib.Omega.{arith}
 use lib.Dec.{ltb}
 use lib.IntN.{ℤ, pos}
 use lib.ListN.{length, getD}
@@ -11,11 +10,12 @@ use borrow.Author.Tests.{ltb-true, lt-ltb}
 use Rattle.rules.specs.Limits.{forLimit}
 use Rattle.rules.specs.Numbers.{Ty, dint, isDint, isZero}
 use Rattle.rules.specs.Meaning.{Table, val, stop, ill, load, loadD}
+use Rattle.image.proofs.Options.{clash}
 use Rattle.machine.specs.Stepping.{mayCount}
 
 both : (x y : Bool) → (x && y) ≡ true → (x ≡ true) × (y ≡ true)
 both true y e = (refl, e)
-both false y e = let z : _≡_ {A = ℕ} 0 1 = cc in absurd (omega arith)
+both false y e = clash (cc)
 
 module _ (Γ : List Ty) (t : Table) (l v : ℕ) (d : ℤ) where
   abbrev fine : Bool
@@ -46,4 +46,4 @@ module _ (Γ : List Ty) (t : Table) (l v : ℕ) (d : ℤ) where
       by : (y z : Bool) → ltb v (length t) ≡ y → fine ≡ z → (y && z) ≡ false → loadD Γ t v d ≡ stop ill
       by y false q r e = rw (r, loadD)
       by false true q r e = rw (r, q, loadD, load)
-      by true true q r e = let w : _≡_ {A = ℕ} 0 1 = cc in absurd (omega arith)
+      by true true q r e = clash (cc)

@@ -17,6 +17,7 @@ use Rattle.theorems.specs.Running.{pcOf, run-on, run-tick, run-spent, run-end}
 use Rattle.theorems.specs.StackLimit.{left-over, falls, falls-tick}
 use Rattle.theorems.specs.Height.{keeps}
 use Rattle.image.specs.Parts.{typesIn}
+use Rattle.image.proofs.Options.{clash}
 use Rattle.machine.specs.Stepping.{View, After, only, on, halted, ticked, after, fresh}
 use Rattle.machine.specs.declared.Stop.{Stop}
 use Rattle.machine.specs.declared.Stop.the-variants.{Going, Done, Spent, Range, Divide, Broken}
@@ -33,9 +34,6 @@ at v t = state (v .at) (v .stack) (v .held) t
 -- n instructions counted before
 abbrev pub bumps : ℕ → Ran → Ran
 bumps n r = record { out = r .out; tab = r .tab; left = r .left; offset = r .offset; count = n + r .count }
-
-never : {X : Type 0} → false ≡ true → X
-never e = let z : _≡_ {A = ℕ} 0 1 = cc in let y : ⊥ = omega arith in absurd y
 
 -- the end of a run, as the last step left it, n instructions counted before
 abbrev pub last : ℕ → ℕ → After → Ran
@@ -87,12 +85,12 @@ module _ (c : Code) (b : ℕ) where
         by : (d : Bool) → ltb (v .ticks) b ≡ d → goesOn (pick d (λ _. on 1 (ticked v)) (λ _. halted Spent v) .stop) ≡ true
             → Better v t (only t (pick d (λ _. on 1 (ticked v)) (λ _. halted Spent v)))
         by true h g = ticks-on e (ltb-true (v .ticks) b h)
-        by false h g = never g
-    better-by (end done) e g = never g
-    better-by (end spent) e g = never g
-    better-by (end range) e g = never g
-    better-by (end divide) e g = never g
-    better-by (end ill) e g = never g
+        by false h g = clash (cc)
+    better-by (end done) e g = clash (cc)
+    better-by (end spent) e g = clash (cc)
+    better-by (end range) e g = clash (cc)
+    better-by (end divide) e g = clash (cc)
+    better-by (end ill) e g = clash (cc)
 
     pub better : {a : After} → a ≡ after b v t (step c (at v t)) → goesOn (a .move .stop) ≡ true → Better v t a
     better p g = rw p (better-by (step c (at v t)) refl (rw p at g))
@@ -105,12 +103,12 @@ module _ (c : Code) (b : ℕ) where
 
     over-by : (d : Deed) → step c (at v t) ≡ d → goesOn (after b v t d .move .stop) ≡ false → Over v t (after b v t d)
     unfolding after finish
-    over-by (goOn (state p s h u)) e g = never (sym g)
+    over-by (goOn (state p s h u)) e g = clash (cc)
     over-by tk e g = by (ltb (v .ticks) b) refl g
       where
         by : (d : Bool) → ltb (v .ticks) b ≡ d → goesOn (pick d (λ _. on 1 (ticked v)) (λ _. halted Spent v) .stop) ≡ false
             → Over v t (only t (pick d (λ _. on 1 (ticked v)) (λ _. halted Spent v)))
-        by true h g = never (sym g)
+        by true h g = clash (cc)
         by false h g = spent-out e (ltb-false (v .ticks) b h)
     over-by (end done) e g = record { ticks = early; same = λ n. ap (bumps n) (run-end c (b - v .ticks) (at v t) done e) }
     over-by (end spent) e g = record { ticks = early; same = λ n. ap (bumps n) (run-end c (b - v .ticks) (at v t) spent e) }
