@@ -1,6 +1,6 @@
--- Something was read, or nothing. Assumes nothing.
+-- Something was read, or nothing; tests that hold together. Assumes nothing.
 use mathlib.Core.Path.{_≡_, refl}
-use mathlib.Core.Bool.{Bool, true, false}
+use mathlib.Core.Bool.{Bool, true, false, _&&_}
 use mathlib.Core.Option.{Option, none, some}
 use Prim.Native.Nat.{ℕ}
 use native.Mathlib.Omega.{arith}
@@ -10,6 +10,10 @@ use Rattle.image.specs.Parts.{isSome}
 -- `clash (cc)`: the facts at hand say that two different things are the same
 pub clash : {X : Type 0} → _≡_ {A = ℕ} 0 1 → X
 clash e = absurd (omega arith)
+
+pub both : (a b : Bool) → (a && b) ≡ true → (a ≡ true) × (b ≡ true)
+both true b e = (refl, e)
+both false b e = clash (cc)
 
 module _ {A : Type 0} where
   pub nothing : (o : Option A) {t : Bool} → t ≡ isSome o → t ≡ false → o ≡ none

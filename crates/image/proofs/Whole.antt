@@ -1,6 +1,6 @@
 -- A whole image: what makes three records one, and what is read of it. Assumes nothing.
 use mathlib.Core.Path.{_≡_, refl, sym, ap, _∙_}
-use mathlib.Core.Bool.{Bool, true, false, _&&_}
+use mathlib.Core.Bool.{false}
 use mathlib.Core.List.{List}
 use mathlib.Core.Option.{Option, none, some}
 use Prim.Native.Nat.{ℕ, _*_, _≤_, _<_}
@@ -13,7 +13,7 @@ use Rattle.rules.specs.Bytes.{Record, recordIn}
 use Rattle.rules.specs.Core.{Variable, types, initials}
 use Rattle.rules.specs.Image.{Loaded, variablesIn, onKind, loadedOf, imageIn}
 use Rattle.image.specs.Parts.{isSome, kindOf, payloadOf, restOf, variablesPart, codePart, typesIn, valuesIn}
-use Rattle.image.proofs.Options.{clash, chosen}
+use Rattle.image.proofs.Options.{clash, both, chosen}
 use Rattle.image.proofs.Reading.{Read, read}
 
 -- ---- a record of a kind
@@ -31,10 +31,6 @@ module _ {A : Type 0} (k : ℕ) where
   unfolding onKind kindOf payloadOf restOf
   of-kind none f e = clash (cc)
   of-kind (some r) f e = let g = chosen (eqb (r .kind) k) (f r) e in (eqb-true (r .kind) k (g .0), g .1)
-
-both : (a b : Bool) → (a && b) ≡ true → (a ≡ true) × (b ≡ true)
-both true b e = (refl, e)
-both false b e = clash (cc)
 
 -- ---- variables within the limit
 load-some : (o : Option (List Variable)) (code : List ℕ) → ((vs : List Variable) → o ≡ some vs → length vs ≤ variableLimit) →

@@ -1,10 +1,9 @@
 // An image is read record by record, in place, and records are written into a buffer.
 ghost use mathlib.Core.List.{[], _∷_};
 ghost use mathlib.Core.Path.{_≡_};
-ghost use Prim.Native.Nat.{_+_, _≤_, _<_};
 ghost use lib.IntN.{pos};
 ghost use lib.ListN.{length, getD};
-ghost use Rattle.rules.specs.Bytes.{put2, of4, recordIn};
+ghost use Rattle.rules.specs.Bytes.{put2, recordIn};
 ghost use Rattle.rules.specs.Numbers.{dint, isDint, holds};
 ghost use Rattle.rules.specs.Image.{typeIn, variableIn, variablesIn, varBytes, figureBytes, imageIn};
 ghost use Rattle.image.specs.Parts.{isSome, kindOf, payloadOf, restOf, variablesPart, codePart, typesIn, valuesIn, declared, fits, putAt};

@@ -10,12 +10,8 @@ use borrow.Author.Tests.{ltb-true, lt-ltb}
 use Rattle.rules.specs.Limits.{forLimit}
 use Rattle.rules.specs.Numbers.{Ty, dint, isDint, isZero}
 use Rattle.rules.specs.Meaning.{Table, val, stop, ill, load, loadD}
-use Rattle.image.proofs.Options.{clash}
+use Rattle.image.proofs.Options.{clash, both}
 use Rattle.machine.specs.Stepping.{mayCount}
-
-both : (x y : Bool) → (x && y) ≡ true → (x ≡ true) × (y ≡ true)
-both true y e = (refl, e)
-both false y e = clash (cc)
 
 module _ (Γ : List Ty) (t : Table) (l v : ℕ) (d : ℤ) where
   abbrev fine : Bool

@@ -8,7 +8,6 @@ ghost use Rattle.rules.specs.Codes.{CONST, LOAD, UN, BIN, JUMP, SPAN, DROP, HOL
 ghost use Rattle.rules.specs.Limits.{stackLimit, forLimit};
 ghost use Rattle.rules.specs.Machine.{isTick, codeIn};
 ghost use Rattle.rules.specs.Numbers.{isZero};
-ghost use Rattle.arith.specs.Exact.{evOf};
 ghost use Rattle.codes.specs.Table.{unOf, binOf, instrOf};
 ghost use Rattle.image.specs.Parts.{typesIn};
 ghost use Rattle.machine.specs.Stepping.{view, move, only, over, holding, pushed, topOf, popped, halted, off, on, does, stepped, Does, DoesIn, DoesOn, Ticks, Stores, Turns, Puts, Goes, Answers, branchOf, taken, mayCount, fresh, Ready, Under};
