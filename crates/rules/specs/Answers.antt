@@ -2,10 +2,14 @@
 use mathlib.Core.List.{List}
 use Prim.Native.Nat.{ℕ}
 use lib.ListN.{take}
-use Rattle.rules.specs.Limits.{textLimit, variableLimit, stackLimit, forLimit, codeLimit, imageLimit, memoryNumbers, memoryBytes, unboundedMark}
+use Rattle.rules.specs.Limits.{textLimit, variableLimit, stackLimit, forLimit, codeLimit, imageLimit, memoryNumbers, memoryBytes, tokenNumbers, treeNumbers, unboundedMark}
+use Rattle.rules.specs.Base.{Res, ok, refuse}
 use Rattle.rules.specs.Meaning.{Table}
 use Rattle.rules.specs.Run.{Report as Reported, Filling}
 use Rattle.rules.specs.Compile.{Answer, accepted, refused}
+use Rattle.rules.specs.Cells.{Lent}
+use Rattle.rules.specs.declared.Stage.{Stage}
+use Rattle.rules.specs.declared.Stage.the-variants.{Left, Refused as StageRefused}
 use Rattle.rules.specs.declared.Compiled.{Compiled}
 use Rattle.rules.specs.declared.Compiled.the-variants.{Accepted, Refused}
 use Rattle.rules.specs.declared.Outcome.{Outcome}
@@ -19,6 +23,14 @@ use Rattle.rules.specs.declared.Limits.{Limits}
 abbrev pub said : Compiled → List ℕ → Answer
 said (Accepted image code depth worst) buffer = accepted (take image buffer) code depth worst
 said (Refused number place) buffer = refused number place
+
+-- a stage of compiling: the answer, with working memory as it is afterwards
+abbrev pub stageAnswer : Stage → Res ℕ
+stageAnswer (Left count) = ok count
+stageAnswer (StageRefused number place) = refuse number place
+
+abbrev pub left : Stage → List ℕ → Lent
+left r memory = record { answer = stageAnswer r; memory = memory }
 
 -- running: DONE, SPENT, RANGE, DIVIDE, and 23 to 25
 abbrev pub outcomeNumber : Outcome → ℕ
@@ -54,5 +66,7 @@ published = record {
   image = imageLimit;
   «memory_numbers» = memoryNumbers;
   «memory_bytes» = memoryBytes;
+  «token_numbers» = tokenNumbers;
+  «tree_numbers» = treeNumbers;
   unbounded = unboundedMark;
 }

@@ -23,6 +23,7 @@ pub mod Run
 -- From the text's bytes to the answer
 pub mod Compile
 pub mod Evaluate
+pub mod Cells
 pub mod Answers
 -- Worked cases
 pub mod Opened

@@ -47,6 +47,13 @@ memoryNumbers = 262144
 abbrev pub memoryBytes : ℕ
 memoryBytes = 1048576
 
+-- of these, the tokens take the first: three for each byte of the longest text and three for its end; the tree takes at most six for each token
+abbrev pub tokenNumbers : ℕ
+tokenNumbers = 49155
+
+abbrev pub treeNumbers : ℕ
+treeNumbers = 98310
+
 -- the longest image: 64 variables, 8,192 bytes of code, and the third record, each with its four bytes of length and kind
 abbrev pub imageLimit : ℕ
 imageLimit = 8530

@@ -22,11 +22,11 @@ pub data Each {A : Type 0} (P : A → Type 0) : List A → Type 0 where
 abbrev pub At : ℕ → Token → Type 0
 At N t = t .place ≤ N
 
--- a piece at place i takes in at most m bytes, or refuses with a number of the list
-data Within (i m : ℕ) : Piece → Type 0 where
+-- a piece at place i takes in at most m bytes, or refuses with 2, 3 or 4
+pub data Within (i m : ℕ) : Piece → Type 0 where
   wGap : {n : ℕ} → n ≤ m → Within i m (gap n)
   wTok : {t : Token} (n : ℕ) → t .place ≡ i → n ≤ m → Within i m (tok t n)
-  wBad : (e : ℕ) → (1 ≤ e) × (e ≤ 17) → Within i m (bad e)
+  wBad : (e : ℕ) → (2 ≤ e) × (e ≤ 4) → Within i m (bad e)
 
 -- a run of bytes is no longer than the text
 pub run-short : (p : ℕ → Bool) (s : List ℕ) → length (run p s) ≤ length s
@@ -71,7 +71,8 @@ symbol-in x (y ∷ s) i =
     either (Within i _) (not (eqb (symbol2 (x ∷ y ∷ s)) FINISH)) (wTok 2 refl (omega arith))
     (either (Within i _) (not (eqb (symbol1 x) FINISH)) (wTok 1 refl (omega arith)) (wBad 2 (omega arith)))
 
-piece-in : (x : ℕ) (s : List ℕ) (i : ℕ) → Within i (length (x ∷ s)) (piece x (x ∷ s) i)
+-- what stands at a byte takes in no more than there is
+pub piece-in : (x : ℕ) (s : List ℕ) (i : ℕ) → Within i (length (x ∷ s)) (piece x (x ∷ s) i)
 unfolding piece
 piece-in x s i =
     let P = Within i (length (x ∷ s)) in

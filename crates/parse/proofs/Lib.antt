@@ -1,0 +1,4 @@
+pub mod Cells
+pub mod Follow
+pub mod Moves
+pub mod Loops

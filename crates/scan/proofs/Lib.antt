@@ -1,0 +1,14 @@
+pub mod Bases
+pub mod Digits
+pub mod Either
+pub mod Letters
+pub mod Lookup
+pub mod Names
+pub mod Nested
+pub mod Runs
+pub mod Scanning
+pub mod Starts
+pub mod Stores
+pub mod SymbolAt
+pub mod Table
+pub mod Within
