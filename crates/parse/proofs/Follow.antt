@@ -1,19 +1,19 @@
 -- How the steps of the code follow the steps of a reader of the rules: one law for each kind of step. Assumes nothing.
 use mathlib.Core.Path.{_≡_, refl, sym, ap, _∙_}
 use mathlib.Core.Bool.{Bool, true, false}
-use mathlib.Core.List.{List, [], _∷_, _++_, append-nil}
+use mathlib.Core.List.{List, [], _++_}
 use Prim.Native.Nat.{ℕ, _+_, _*_, _≤_, _<_}
 use native.Mathlib.Nat.{add-zero}
 use native.Mathlib.Omega.{arith}
 use lib.Dec.{eqb, ltb}
-use lib.ListN.{length, drop, take, length-append}
+use lib.ListN.{length, length-append}
 use lib.Seq.{sets}
 use borrow.Author.Tests.{eq-eqb, ne-eqb, lt-ltb, le-ltb, ltb-false}
 use Rattle.rules.specs.Base.{pick}
 use Rattle.rules.specs.Tokens.{Token, plain}
 use Rattle.rules.specs.Syntax as S
-use Rattle.rules.specs.Syntax.{Read, got, bad, Reader, onRead, _>>=_, _>>_, give, when, whether, nested, unexpected}
-use Rattle.rules.specs.Cells.{cells, cell, datum}
+use Rattle.rules.specs.Syntax.{Read, bad, Reader, onRead, _>>=_, _>>_, give, when, whether, nested, unexpected}
+use Rattle.rules.specs.Cells.{cell, datum}
 use Rattle.parse.specs.Steps.{freeOf, tokenAt, kindAt, skipped, extended, written, refusedAt}
 use Rattle.parse.specs.Reading.{Ahead, Done, read, refusal, Did, reads, stays, nothing}
 use Rattle.parse.specs.declared.steps.Step.{Step}

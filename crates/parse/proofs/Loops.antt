@@ -12,7 +12,7 @@ use Rattle.parse.specs.declared.steps.Step.{Step}
 use Rattle.parse.proofs.Follow.{seen, Ends, named, bind, knows}
 
 -- what is read is given on as it is
-same : {A : Type 0} (o : Read A) → o ≡ onRead o (λ x. give x)
+pub same : {A : Type 0} (o : Read A) → o ≡ onRead o (λ x. give x)
 unfolding onRead give
 same (got a us) = refl
 same (bad x p) = refl

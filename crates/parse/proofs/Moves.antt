@@ -1,15 +1,14 @@
 -- How far each kind of step moves in the tokens and in the free numbers. Assumes nothing.
 use mathlib.Core.Path.{_≡_, refl}
 use mathlib.Core.Bool.{Bool, true, false}
-use mathlib.Core.List.{List, [], _∷_}
-use Prim.Native.Nat.{ℕ, zero, suc, _+_, _*_, _≤_, _<_}
+use mathlib.Core.List.{List}
+use Prim.Native.Nat.{ℕ, _+_, _*_, _≤_, _<_}
 use native.Mathlib.Nat.{le-refl}
 use native.Mathlib.Omega.{arith}
 use lib.Dec.{ltb}
-use lib.ListN.{length, getD, take, length-take}
+use lib.ListN.{length, getD, take, length-take, List·getD-eq-default}
 use borrow.Author.Tests.{lt-ltb, ltb-true, ltb-false}
 use Rattle.rules.specs.Limits.{tokenNumbers}
-use Rattle.rules.specs.Base.{pick}
 use Rattle.parse.specs.Steps.{nextOf, endOf, freeOf, tokenAt, kindAt, skipped, extended, refusedAt}
 use Rattle.parse.specs.declared.steps.Step.{Step}
 use Rattle.parse.specs.declared.steps.Step.the-variants.{Ok, Bad}
@@ -35,11 +34,6 @@ unfolding refusedAt nextOf freeOf endOf
 refused-all n x p (Ok j a) = (refl, refl, refl)
 refused-all n x p (Bad y q) = (refl, refl, refl)
 
-beyond : (l : List ℕ) (i : ℕ) → length l ≤ i → getD l i 0 ≡ 0
-beyond [] i h = refl
-beyond (x ∷ l) zero h = absurd (omega arith)
-beyond (x ∷ l) (suc i) h = beyond l i (omega arith)
-
 -- where the next kind is not that of the end, there is a next token
 pub some-ahead : (n : ℕ) (m : List ℕ) (s : Step) → 1 ≤ kindAt n m s → nextOf n s < n
 unfolding kindAt tokenAt nextOf
@@ -51,5 +45,5 @@ some-ahead n m (Ok j a) h = go (ltb j n) refl
     go false e =
         let le = ltb-false j n e in
         let short : length (take (3 * n) m) ≤ 3 * j = rw (length-take (3 * n) m) (omega arith) in
-        let z : getD (take (3 * n) m) (3 * j) 0 ≡ 0 = beyond (take (3 * n) m) (3 * j) short in
+        let z : getD (take (3 * n) m) (3 * j) 0 ≡ 0 = List·getD-eq-default (take (3 * n) m) 0 short in
         absurd (omega arith)

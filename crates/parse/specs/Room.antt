@@ -1,5 +1,5 @@
 -- The tree lies in the numbers that are published for it.
-use Prim.Native.Nat.{ℕ, _≤_}
+use Prim.Native.Nat.{_≤_}
 use Rattle.rules.specs.Limits.{treeNumbers}
 use Rattle.rules.specs.declared.Stage.{Stage}
 use Rattle.rules.specs.declared.Stage.the-variants.{Left, Refused}

@@ -2,7 +2,7 @@
 use mathlib.Core.List.{List}
 use Prim.Native.Nat.{ℕ, _+_, _*_, _-_, _≤_}
 use lib.Dec.{ltb}
-use lib.ListN.{length, getD, take}
+use lib.ListN.{getD, take}
 use lib.Seq.{sets}
 use Rattle.rules.specs.Limits.{tokenNumbers}
 use Rattle.rules.specs.Base.{pick}
@@ -31,7 +31,7 @@ roomOf n s = endOf s + 6 * (n - nextOf n s)
 
 -- a step at which reading may go on, in l numbers, and with so many more
 abbrev pub Fits : ℕ → ℕ → ℕ → Step → Type 0
-Fits n l more s = (3 * n ≤ tokenNumbers) × (nextOf n s ≤ n) × (tokenNumbers ≤ freeOf s) × (roomOf n s + more ≤ l)
+Fits n l more s = (3 * n ≤ tokenNumbers) × (nextOf n s ≤ n) × (tokenNumbers ≤ freeOf s) × (roomOf n s + more ≤ l) × (tokenNumbers ≤ l)
 
 -- reading went from s to r: on in the tokens, and so many numbers more at most
 abbrev pub Moves : ℕ → ℕ → Step → Step → Type 0

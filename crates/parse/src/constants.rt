@@ -1,11 +1,10 @@
 // Constants, and the labels of CASE.
 ghost use mathlib.Core.Path.{_≡_};
-ghost use Prim.Native.Nat.{ℕ, _<_};
 ghost use lib.ListN.{length};
 ghost use Rattle.rules.specs.Cells.{conCells, maybeCells, labelCells, labelsCells};
 ghost use Rattle.rules.specs.Kinds.{INT};
 ghost use Rattle.rules.specs.Syntax.{constant, maybe, oneLabel, labels, take, startsConstant};
-ghost use Rattle.parse.specs.Steps.{nextOf, Fits, Moves};
+ghost use Rattle.parse.specs.Steps.{Fits, Moves};
 ghost use Rattle.parse.specs.Reading.{Did, DidWith};
 ghost use Rattle.parse.specs.Parts.{integerCells};
 use super::steps::Step;

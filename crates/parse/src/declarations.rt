@@ -1,11 +1,10 @@
 // Declarations, and the whole program.
-ghost use mathlib.Core.Path.{_≡_};
-ghost use Prim.Native.Nat.{ℕ, _*_, _+_, _<_, _≤_};
+ghost use Prim.Native.Nat.{_*_, _<_, _≤_};
 ghost use lib.ListN.{length};
 ghost use Rattle.rules.specs.Limits.{tokenNumbers, memoryNumbers};
 ghost use Rattle.rules.specs.Cells.{declCells, declsCells, treeCells};
 ghost use Rattle.rules.specs.Syntax.{declaration, declarations, variables, program};
-ghost use Rattle.parse.specs.Steps.{nextOf, Fits, Moves, roomOf};
+ghost use Rattle.parse.specs.Steps.{nextOf, Fits, Moves};
 ghost use Rattle.parse.specs.Reading.{Did, DidWith};
 ghost use Rattle.parse.specs.Parts.{declaredType, typeCell};
 ghost use Rattle.parse.specs.declared.steps.Step.the-variants.{Ok};
@@ -74,7 +73,7 @@ fn variables(memory: &mut [u32], count: usize, s: Step) -> Step
 // The whole program, from the first token on.
 pub(crate) fn program(memory: &mut [u32], count: usize) -> Step
     requires { ⌜ (3 * count ≤ tokenNumbers) × (memoryNumbers ≤ length (now memory)) ⌝ }
-    ensures fine { λ r. ⌜ Moves count 6 (Ok 0 tokenNumbers) r ⌝ }
+    ensures fine { λ r. ⌜ Moves count 0 (Ok 0 tokenNumbers) r ⌝ }
     ensures means { λ r. ⌜ DidWith 3 3 treeCells count (now (memory .entry)) (now (memory .exit)) (Ok 0 tokenNumbers) r program ⌝ }
 {
     let start = Step::Ok(0, Limits::TOKEN_NUMBERS);

@@ -1,6 +1,6 @@
 // Expressions, by one function for all levels. They are written in postfix.
 ghost use mathlib.Core.Path.{_≡_};
-ghost use Prim.Native.Nat.{ℕ, suc, _<_, _≤_};
+ghost use Prim.Native.Nat.{suc, _<_, _≤_};
 ghost use lib.ListN.{length};
 ghost use Rattle.rules.specs.Cells.{expCells, wholeCells};
 ghost use Rattle.rules.specs.Codes.{binCode};

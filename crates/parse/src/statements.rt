@@ -1,6 +1,6 @@
 // Statements and lists of them. They are written in prefix, and each list is closed by a cell.
 ghost use mathlib.Core.Path.{_≡_};
-ghost use Prim.Native.Nat.{ℕ, _<_, _≤_};
+ghost use Prim.Native.Nat.{_<_};
 ghost use lib.ListN.{length};
 ghost use Rattle.rules.specs.Cells.{nameCell, stmCells, listCells, branchCells, groupCells};
 ghost use Rattle.rules.specs.Syntax.{takeName, assignment, ifThen, caseOf, forDo, whileDo, repeatUntil, expr, labels, oneGroup, statement, list, branches, groups};

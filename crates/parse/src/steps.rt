@@ -1,10 +1,10 @@
 // Where reading stands in the tokens, and what it writes behind them.
 ghost use mathlib.Core.Path.{_≡_};
-ghost use Prim.Native.Nat.{ℕ, _+_, _≤_};
+ghost use Prim.Native.Nat.{_+_, _-_, _≤_, _<_};
 ghost use lib.ListN.{length};
 ghost use Rattle.rules.specs.Cells.{cell};
 ghost use Rattle.rules.specs.Syntax.{take};
-ghost use Rattle.parse.specs.Steps.{endOf, roomOf, Fits, Moves, tokenAt, skipped, extended, written, refusedAt, kindAt};
+ghost use Rattle.parse.specs.Steps.{nextOf, endOf, roomOf, Fits, Moves, tokenAt, skipped, extended, written, refusedAt, kindAt};
 ghost use Rattle.parse.specs.Reading.{nothing, Did};
 
 pub(crate) enum Step {
@@ -82,7 +82,8 @@ pub(crate) fn refuse(s: Step, number: u32, place: u32) -> Step
 pub(crate) fn take(memory: &[u32], count: usize, s: Step, kind: u32) -> Step
     requires { ⌜ Fits count (length (now memory)) 0 s ⌝ }
     ensures fine { λ r. ⌜ Moves count 0 s r ⌝ }
-    ensures paid { λ r. ⌜ (1 ≤ kind → roomOf count r + 6 ≤ roomOf count s) ⌝ }
+    ensures paid { λ r. ⌜ (1 ≤ kind → roomOf count r ≤ roomOf count s - 6) ⌝ }
+    ensures on { λ r. ⌜ (1 ≤ kind → nextOf count r < count → nextOf count s < nextOf count r) ⌝ }
     ensures means { λ r. ⌜ Did nothing count (now (memory .entry)) (now (memory .entry)) s r (take kind) ⌝ }
 {
     let token = next(memory, count, s);

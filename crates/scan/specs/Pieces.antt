@@ -1,5 +1,5 @@
 -- What the answers of scanning's functions stand for.
-use mathlib.Core.Bool.{Bool, true, false}
+use mathlib.Core.Bool.{Bool, false}
 use mathlib.Core.List.{List, [], _∷_}
 use Prim.Native.Nat.{ℕ, _*_, _≤_}
 use Rattle.rules.specs.Limits.{tokenNumbers}

@@ -1,8 +1,8 @@
 -- The reserved word of a row of the table.
-use mathlib.Core.List.{List, []}
+use mathlib.Core.List.{List}
 use Prim.Native.Nat.{ℕ}
 use lib.ListN.{getD}
-use Rattle.rules.specs.Tokens.{Entry, entry, reserved}
+use Rattle.rules.specs.Tokens.{entry, reserved}
 use Rattle.rules.specs.Kinds.{NAME}
 
 unfoldable pub spelled : ℕ → List ℕ

@@ -1,20 +1,28 @@
 -- What is read from tokens with their places in the text has its places there too; so have the refusals.
+use mathlib.Core.Path.{_≡_}
 use mathlib.Core.Bool.{Bool, true, false}
 use mathlib.Core.List.{List}
 use Prim.Native.Nat.{ℕ, zero, suc, _≤_, _*_}
 use native.Mathlib.Omega.{arith}
 use lib.Dec.{eqb, ltb, leb}
 use lib.ListN.{length}
+use Rattle.rules.specs.Base.{refuse}
 use Rattle.rules.specs.Tokens.{Token, plain}
 use Rattle.rules.specs.Syntax.{Sign, Exp, Stms, Tree, Read, got, bad, Reader, onRead, _>>=_, _>>_, give, next, rest, skip, take, when, whether, unexpected, nested, nameOf, takeName, signed, truthCon, unsigned, constant, maybe, operatorOf, operators, leaf, parens, operand, prefixed, signedOperand, expr, more, assignment, ifThen, caseOf, forDo, whileDo, repeatUntil, exit, oneLabel, labels, oneBranch, oneGroup, oneMore, statement, list, branches, groups, declaration, declarations, variables, program, treeOf, parse}
-use Rattle.theorems.specs.Refusals.{Allowed, Fine, fOk, fRefuse, Any, either}
+use Rattle.theorems.specs.Refusals.{Fine, fOk, fRefuse, Any, either}
 use Rattle.theorems.specs.TokenPlaces.{Each, eNil, eCons, At}
 use Rattle.theorems.specs.TreePlaces.{ExpIn, iNamed, iWhole, iTruth, iParen, iUnary, iBinary, ConIn, iBool, iInt, MaybeIn, iNone, iSome, LabelIn, iLabel, DeclIn, StmIn, iAssign, iIf, iCase, iFor, iWhile, iRepeat, iExit, StmsIn, iEmpty, iThen, BranchesIn, iNoElse, iElseB, iBranch, GroupsIn, iNoOther, iElseG, iGroup, TreeIn}
 
--- what was read has a property, and the tokens left have their places; or the refusal is allowed
+-- a refusal of reading: its number is from 5 to 10 (5, and 10 for nesting), its place one of the text
+record Unread (N n p : ℕ) : Type 0 where
+  pub low : 5 ≤ n
+  pub high : n ≤ 10
+  pub near : p ≤ N
+
+-- what was read has a property, and the tokens left have their places; or it is refused
 data Kept {A : Type 0} (N : ℕ) (Q : A → Type 0) : Read A → Type 0 where
   kGot : {a : A} {ts : List Token} → Q a → Each (At N) ts → Kept N Q (got a ts)
-  kBad : (n p : ℕ) → Allowed N n p → Kept N Q (bad n p)
+  kBad : (n p : ℕ) → Unread N n p → Kept N Q (bad n p)
 
 -- a reader that keeps to the text, if the tokens before it do
 record Placed {A : Type 0} (N : ℕ) (Q : A → Type 0) (r : Reader A) : Type 0 where
@@ -221,8 +229,18 @@ module _ {N : ℕ} where
   tree-in : {r : Read Tree} → Kept N (TreeIn N) r → Fine N (TreeIn N) (treeOf r)
   unfolding treeOf
   tree-in (kGot h t) = fOk h
-  tree-in (kBad n p h) = fRefuse n p h
+  tree-in (kBad n p h) = fRefuse n p (omega arith)
 
   pub parse-in : (ts : List Token) → Each (At N) ts → Fine N (TreeIn N) (parse ts)
   unfolding parse
   parse-in ts t = tree-in (program-in (4 * length ts) .reads ts t)
+
+  -- what reading refuses, it refuses with a number from 5 to 10
+  tree-refused : {r : Read Tree} (n p : ℕ) → Kept N (TreeIn N) r → treeOf r ≡ refuse n p → (5 ≤ n) × (n ≤ 10)
+  unfolding treeOf
+  tree-refused n p (kGot h t) e = let z : _≡_ {A = ℕ} 0 1 = cc in absurd (omega arith)
+  tree-refused n p (kBad m q h) e = let same : m ≡ n = cc in omega arith
+
+  pub parse-refused : (ts : List Token) (n p : ℕ) → Each (At N) ts → parse ts ≡ refuse n p → (5 ≤ n) × (n ≤ 10)
+  unfolding parse
+  parse-refused ts n p t e = tree-refused n p (program-in (4 * length ts) .reads ts t) e
