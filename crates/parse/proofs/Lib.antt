@@ -12,9 +12,9 @@ pub mod OneConstant
 pub mod OneLabel
 pub mod Operands
 pub mod Operators
-pub mod Passing
 pub mod Productions
 pub mod Programs
+pub mod Promised
 pub mod Promises
 pub mod Repeats
 pub mod Rooms

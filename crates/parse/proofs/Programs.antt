@@ -10,7 +10,7 @@ use borrow.Author.Tests.{eq-eqb, ne-eqb, ltb-true, ltb-false}
 use Rattle.rules.specs.Limits.{tokenNumbers, memoryNumbers}
 use Rattle.rules.specs.Numbers.{bool, dint}
 use Rattle.rules.specs.Kinds.{FINISH, NAME, BOOL, DINT, END-PROGRAM, END-VAR, PROGRAM, VAR, ASSIGN, COLON, SEMI}
-use Rattle.rules.specs.Syntax.{Decl, Reader, onRead, _>>=_, give, take, when, maybe, list, empty, declaration, declarations, variables, program}
+use Rattle.rules.specs.Syntax.{Decl, onRead, _>>=_, give, when, maybe, list, empty, declaration, declarations, variables, program}
 use Rattle.rules.specs.Cells.{cell, endCell, nameCell, maybeCells, listCells, typeKind, declCells, declsCells, treeCells}
 use Rattle.parse.specs.Steps.{nextOf, endOf, freeOf, roomOf, Fits, Moves, tokenAt, kindAt, skipped, extended, written}
 use Rattle.parse.specs.Reading.{Did, DidWith, nothing}
@@ -21,21 +21,10 @@ use Rattle.parse.specs.declared.steps.Token as Code
 use Rattle.parse.proofs.Moves.{wrote}
 use Rattle.parse.proofs.Follow.{Ends, begin, gives, bind, thens, knows, skips-on, writes, is, isn't}
 use Rattle.parse.proofs.Loops.{Loops, loops-step}
+use Rattle.parse.proofs.Promised.{Reads, ReadsWith, Takes}
 use Rattle.parse.proofs.Skipping.{past}
 use Rattle.parse.proofs.Stays.{reading, reading-with}
 use Rattle.parse.proofs.Names.{takes-name, passes-name}
-
--- what taking a token of a kind promises
-abbrev Took : ℕ → List ℕ → Step → Step → ℕ → Type 0
-Took n m s r kind =
-    Moves n 0 s r × ((1 ≤ kind → roomOf n r ≤ roomOf n s - 6) × ((1 ≤ kind → nextOf n r < n → nextOf n s < nextOf n r) × Did nothing n m m s r (take kind)))
-
--- what reading promises: how far it moves, and what it did
-abbrev Reads : ℕ → {A : Type 0} → (A → List ℕ) → ℕ → List ℕ → List ℕ → Step → Step → Reader A → Type 0
-Reads most encode n m m₁ s r reader = Moves n most s r × Did encode n m m₁ s r reader
-
-abbrev ReadsWith : ℕ → ℕ → ℕ → {A : Type 0} → (A → List ℕ) → ℕ → List ℕ → List ℕ → Step → Step → (ℕ → Reader A) → Type 0
-ReadsWith most each more encode n m m₁ s r reader = Moves n most s r × DidWith each more encode n m m₁ s r reader
 
 -- a step within the tokens, whose free numbers lie behind them
 abbrev Within : ℕ → Step → Type 0
@@ -65,7 +54,7 @@ module _ {n : ℕ} {m : List ℕ} {s : Step} (behind : 3 * n ≤ freeOf s) where
       let more = wrote n s₁ (w .0) in
       (omega arith, begin (is behind _ _ BOOL (sym sees ∙ same) (skips-on behind (writes behind BOOL place d (rw skip at w) (gives bool refl)))))
 
-  pub type-dint : Within n s → {k : ℕ} {m₁ : List ℕ} {s₁ r : Step} (place d : ℕ) → k ≡ kindAt n m s → (k ≡ BOOL → ⊥) → Took n m s s₁ DINT
+  pub type-dint : Within n s → {k : ℕ} {m₁ : List ℕ} {s₁ r : Step} (place d : ℕ) → k ≡ kindAt n m s → (k ≡ BOOL → ⊥) → Takes DINT n m s s₁
       → (r ≡ extended s₁) × (m₁ ≡ written m s₁ (cell DINT place d)) → Reads 0 (typeCell place d) n m m₁ s r declaredType
   unfolding declaredType typeCell typeKind
   type-dint within {s₁} place d sees other word w =
@@ -78,8 +67,8 @@ module _ {n : ℕ} {m : List ℕ} {s : Step} (behind : 3 * n ≤ freeOf s) where
   -- A declaration; x is the name's token
 
   pub declares : {x : Code.Token} {m₁ m₂ : List ℕ} {s₁ s₂ s₃ s₄ r : Step} → tokenNumbers ≤ freeOf s → nextOf n s < n → x ≡ tokenAt n m s
-      → Took n m s s₁ NAME → Took n m s₁ s₂ COLON → Reads 0 (typeCell (x .place) (x .datum)) n m m₁ s₂ s₃ declaredType
-      → Reads 3 maybeCells n m₁ m₂ s₃ s₄ (maybe ASSIGN) → Took n m₂ s₄ r SEMI
+      → Takes NAME n m s s₁ → Takes COLON n m s₁ s₂ → Reads 0 (typeCell (x .place) (x .datum)) n m m₁ s₂ s₃ declaredType
+      → Reads 3 maybeCells n m₁ m₂ s₃ s₄ (maybe ASSIGN) → Takes SEMI n m₂ s₄ r
       → Moves n 0 s r × ((nextOf n s < nextOf n r) × Did declCells n m m₂ s r declaration)
   unfolding declaration declaredType typeCell declCells nameCell
   declares {m₂} {s₁} {r} free ahead sees name colon typed initial semi =
@@ -131,7 +120,7 @@ module _ {n : ℕ} {m : List ℕ} {s : Step} (behind : 3 * n ≤ freeOf s) where
 
   -- VAR, declarations, END_VAR
   pub variables-some : {k : ℕ} {m₁ : List ℕ} {s₁ s₂ r : Step} → k ≡ kindAt n m s → k ≡ VAR → s₁ ≡ skipped n s
-      → ReadsWith 3 1 1 declsCells n m m₁ s₁ s₂ declarations → Took n m₁ s₂ r END-VAR → ReadsWith 3 1 1 declsCells n m m₁ s r variables
+      → ReadsWith 3 1 1 declsCells n m m₁ s₁ s₂ declarations → Takes END-VAR n m₁ s₂ r → ReadsWith 3 1 1 declsCells n m m₁ s r variables
   unfolding variables
   variables-some sees same skip d word =
       let one = past n m s sees (omega arith) skip in (
@@ -152,8 +141,8 @@ module _ {n : ℕ} {m : List ℕ} {s : Step} (behind : 3 * n ≤ freeOf s) where
   -- The whole program
 
   pub programs : {m₁ m₂ : List ℕ} {s₁ s₂ s₃ s₄ s₅ r : Step} → tokenNumbers ≤ freeOf s
-      → Took n m s s₁ PROGRAM → Took n m s₁ s₂ NAME → ReadsWith 3 1 1 declsCells n m m₁ s₂ s₃ variables → ReadsWith 3 3 3 listCells n m₁ m₂ s₃ s₄ (λ f. list f 0 0)
-      → Took n m₂ s₄ s₅ END-PROGRAM → Took n m₂ s₅ r FINISH → ReadsWith 0 3 3 treeCells n m m₂ s r program
+      → Takes PROGRAM n m s s₁ → Takes NAME n m s₁ s₂ → ReadsWith 3 1 1 declsCells n m m₁ s₂ s₃ variables → ReadsWith 3 3 3 listCells n m₁ m₂ s₃ s₄ (λ f. list f 0 0)
+      → Takes END-PROGRAM n m₂ s₄ s₅ → Takes FINISH n m₂ s₅ r → ReadsWith 0 3 3 treeCells n m m₂ s r program
   unfolding program treeCells
   programs {m₂} {s₁} {s₂} {s₃} {r} free word name declared body end all =
       reading-with 0 3 3 means (λ h. let paid = pays n s s₁ free h (word .1 .0 (omega arith)) in omega arith)

@@ -32,6 +32,10 @@ skip-moves n s q h f = rw q (by s h f)
         go true e = let lt = ltb-true j n e in omega arith
         go false e = omega arith
 
+-- where the next token's kind is not that of the end, there is a next token
+pub token-next : (n : ℕ) (m : List ℕ) (s : Step) {t : Code.Token} → t ≡ tokenAt n m s → 1 ≤ t .kind → nextOf n s < n
+token-next n m s e h = some-ahead n m s (rw (← (kind-had n m s e)) at h)
+
 module _ (n : ℕ) (m : List ℕ) (s : Step) {s₁ : Step} where
   -- the next token's kind is not that of the end
   pub past : {k : ℕ} → k ≡ kindAt n m s → 1 ≤ k → s₁ ≡ skipped n s → Past n s s₁

@@ -12,7 +12,8 @@ use borrow.Fn.PlainCycle.{Measures, is, falls, and}
 use Rattle.parse.specs.Steps.{nextOf, Moves}
 use Rattle.parse.specs.declared.steps.Step.{Step}
 use Rattle.parse.proofs.Moves.{wrote}
-use Rattle.parse.proofs.Passing.{token-next, passed, refused}
+use Rattle.parse.proofs.Rooms.{passed, refused}
+use Rattle.parse.proofs.Skipping.{token-next}
 use Rattle.parse.proofs.Operators.{either, neither, pair}
 use Rattle.parse.proofs.Operands.{sign-ahead, reads-word, reads-truth, reads-open, reads-none, reads-deep, reads-inner, reads-unsigned, reads-signed, reads-right}
 use Rattle.parse.proofs.Chain.{Chains, chain-start, chain-step, chain-end, operator-next}
