@@ -6,7 +6,7 @@ use crate::numbers::{
     refuse, Fault, Refusal, CODE_LIMIT, IMAGE_LIMIT, TEXT_LIMIT, UNBOUNDED, WORKING_MEMORY_LENGTH,
 };
 use crate::program::Program;
-use crate::syntax::tree;
+use crate::syntax::{tree, Tree};
 use crate::tokens::tokens;
 use crate::translate::translate;
 use crate::walk::walk;
@@ -22,6 +22,15 @@ pub struct Accepted {
     pub worst_case: u32,
 }
 
+/// 1; tokens; syntax and nesting.
+pub fn parse(text: &[u8]) -> Result<Tree, Refusal> {
+    if text.len() > TEXT_LIMIT {
+        return refuse(Fault::TextTooLong, TEXT_LIMIT);
+    }
+    let tokens = tokens(text)?;
+    tree(&tokens, text.len())
+}
+
 /// 17; 1; tokens; syntax and nesting; the walk; last 13, 14.
 pub fn compile(
     text: &[u8],
@@ -31,11 +40,7 @@ pub fn compile(
     if working_memory_length < WORKING_MEMORY_LENGTH {
         return refuse(Fault::WorkingMemoryShort, 0);
     }
-    if text.len() > TEXT_LIMIT {
-        return refuse(Fault::TextTooLong, TEXT_LIMIT);
-    }
-    let tokens = tokens(text)?;
-    let tree = tree(&tokens, text.len())?;
+    let tree = parse(text)?;
     let program = walk(&tree)?;
     let code = translate(&program);
     if code.len() > CODE_LIMIT {

@@ -13,4 +13,5 @@ pub mod protocol;
 pub mod syntax;
 pub mod tokens;
 pub mod translate;
+pub mod tree;
 pub mod walk;

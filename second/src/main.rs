@@ -1,7 +1,7 @@
 //! The command `second`: the line protocol, the desk's line, or requests to compare programs with.
 
 use second::compile::desk_line;
-use second::generate::{edges, random::Random, request};
+use second::generate::{edges, parse_requests, random::Random, request};
 use second::protocol::answer;
 use std::io::{self, BufRead, BufReader, BufWriter, Read, Write};
 use std::process::ExitCode;
@@ -38,20 +38,26 @@ fn requests(seed: u64, count: u64) -> io::Result<()> {
     output.flush()
 }
 
-fn edges() -> io::Result<()> {
+fn write_all(requests: &[String]) -> io::Result<()> {
     let mut output = BufWriter::new(io::stdout().lock());
-    for request in edges::requests() {
+    for request in requests {
         writeln!(output, "{request}")?;
     }
     output.flush()
+}
+
+/// Writes requests to parse: the edges, and so many from a seed.
+fn texts(seed: u64, count: u64) -> io::Result<()> {
+    write_all(&parse_requests(&mut Random::new(seed), count))
 }
 
 fn command(arguments: &[&str]) -> Option<io::Result<()>> {
     match arguments {
         [] | ["lines"] => Some(lines()),
         ["desk"] => Some(desk()),
-        ["edges"] => Some(edges()),
+        ["edges"] => Some(write_all(&edges::requests())),
         ["requests", seed, count] => Some(requests(seed.parse().ok()?, count.parse().ok()?)),
+        ["texts", seed, count] => Some(texts(seed.parse().ok()?, count.parse().ok()?)),
         _ => None,
     }
 }
@@ -66,7 +72,9 @@ fn main() -> ExitCode {
             ExitCode::FAILURE
         }
         None => {
-            eprintln!("usage: second [lines | desk | edges | requests SEED COUNT]");
+            eprintln!(
+                "usage: second [lines | desk | edges | requests SEED COUNT | texts SEED COUNT]"
+            );
             ExitCode::FAILURE
         }
     }

@@ -1,10 +1,11 @@
 //! The line protocol: one request to a line, one answer to a line.
 
-use crate::compile::{compile, compile_text, desk_line, refused_line};
+use crate::compile::{compile, compile_text, desk_line, parse, refused_line};
 use crate::evaluate::evaluate;
 use crate::image::initial_values;
 use crate::machine::run;
 use crate::numbers::{IMAGE_LIMIT, WORKING_MEMORY_LENGTH};
+use crate::tree::numbers;
 
 /// Why a line is no request.
 #[derive(Clone, Copy, Debug, PartialEq, Eq)]
@@ -130,6 +131,15 @@ fn answer_compile(text: &[u8], capacity: usize) -> String {
     }
 }
 
+fn answer_parse(text: &[u8]) -> String {
+    let numbers = match parse(text) {
+        Ok(tree) => numbers(&tree),
+        Err(refusal) => return refused_line(refusal),
+    };
+    let fields: Vec<String> = numbers.iter().map(u32::to_string).collect();
+    format!("TREE {} {}", numbers.len(), fields.join(" "))
+}
+
 fn answer_run(image: &[u8], budget: u32, mut table: Vec<i32>) -> String {
     let report = run(image, budget, &mut table);
     format!(
@@ -169,6 +179,7 @@ fn answer_request(line: &[u8]) -> Result<String, Error> {
     match *fields {
         [b"C", text] => Ok(answer_compile(&bytes(text)?, IMAGE_LIMIT)),
         [b"C", text, capacity] => Ok(answer_compile(&bytes(text)?, length(capacity)?)),
+        [b"P", text] => Ok(answer_parse(&bytes(text)?)),
         [b"R", image, budget, values] => Ok(answer_run(
             &bytes(image)?,
             unsigned(budget)?,
@@ -181,7 +192,7 @@ fn answer_request(line: &[u8]) -> Result<String, Error> {
         )),
         [b"F", image, count] => Ok(answer_fill(&bytes(image)?, length(count)?)),
         [b"D", text] => Ok(desk_line(&bytes(text)?)),
-        [b"C" | b"R" | b"E" | b"F" | b"D", ..] => Err(Error::Fields),
+        [b"C" | b"P" | b"R" | b"E" | b"F" | b"D", ..] => Err(Error::Fields),
         _ => Err(Error::Request),
     }
 }

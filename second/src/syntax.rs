@@ -43,8 +43,15 @@ pub enum Expression {
         place: usize,
         magnitude: u32,
     },
-    Truth(bool),
-    Parentheses(Box<Expression>),
+    Truth {
+        place: usize,
+        value: bool,
+    },
+    Parentheses {
+        /// The `(`.
+        place: usize,
+        inside: Box<Expression>,
+    },
     Unary(Operator<Unary>, Box<Expression>),
     /// Operators of one level, grouped from the left.
     Chain(Box<Expression>, Vec<(Operator<Binary>, Expression)>),
@@ -103,7 +110,7 @@ pub enum Statement {
     Case {
         selector: Whole,
         groups: Vec<Group>,
-        otherwise: Vec<Statement>,
+        otherwise: Option<Vec<Statement>>,
     },
     For(For),
     While {
@@ -257,23 +264,24 @@ impl Reader<'_> {
 
     fn parentheses(&mut self) -> Result<Expression, Refusal> {
         self.room_for_one_more(self.parentheses, PARENTHESES_LIMIT)?;
+        let place = self.place();
         self.expect("(")?;
         self.parentheses += 1;
-        let inside = self.expression(&LEVELS)?;
+        let inside = Box::new(self.expression(&LEVELS)?);
         self.expect(")")?;
         self.parentheses -= 1;
-        Ok(Expression::Parentheses(Box::new(inside)))
+        Ok(Expression::Parentheses { place, inside })
     }
 
     fn operand(&mut self) -> Result<Expression, Refusal> {
         if self.at("(") {
             return self.parentheses();
         }
+        let place = self.place();
         if let Some(value) = self.truth() {
-            return Ok(Expression::Truth(value));
+            return Ok(Expression::Truth { place, value });
         }
         if let Some(&Kind::Integer(magnitude)) = self.kind() {
-            let place = self.place();
             self.read += 1;
             return Ok(Expression::Integer { place, magnitude });
         }
@@ -341,17 +349,22 @@ impl Reader<'_> {
         Ok(Branch { condition, list })
     }
 
+    /// ELSE and its list, if wanted.
+    fn otherwise(&mut self) -> Result<Option<Vec<Statement>>, Refusal> {
+        if self.accept("ELSE") {
+            Ok(Some(self.list()?))
+        } else {
+            Ok(None)
+        }
+    }
+
     fn if_statement(&mut self) -> Result<Statement, Refusal> {
         self.expect("IF")?;
         let mut branches = vec![self.branch()?];
         while self.accept("ELSIF") {
             branches.push(self.branch()?);
         }
-        let otherwise = if self.accept("ELSE") {
-            Some(self.list()?)
-        } else {
-            None
-        };
+        let otherwise = self.otherwise()?;
         self.expect("END_IF")?;
         Ok(Statement::If {
             branches,
@@ -387,11 +400,7 @@ impl Reader<'_> {
         while self.at_constant() {
             groups.push(self.group()?);
         }
-        let otherwise = if self.accept("ELSE") {
-            self.list()?
-        } else {
-            Vec::new()
-        };
+        let otherwise = self.otherwise()?;
         self.expect("END_CASE")?;
         Ok(Statement::Case {
             selector,

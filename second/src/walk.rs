@@ -211,10 +211,10 @@ impl Walk {
                 let value = integer(*magnitude, *place)?;
                 Ok((Expression::Constant(value), Type::Dint))
             }
-            syntax::Expression::Truth(value) => {
+            syntax::Expression::Truth { value, .. } => {
                 Ok((Expression::Constant(i32::from(*value)), Type::Bool))
             }
-            syntax::Expression::Parentheses(inside) => {
+            syntax::Expression::Parentheses { inside, .. } => {
                 let (inside, kind) = self.expression(inside)?;
                 Ok((Expression::Parentheses(Box::new(inside)), kind))
             }
@@ -280,7 +280,7 @@ impl Walk {
         &mut self,
         selector: &Whole,
         groups: &[syntax::Group],
-        otherwise: &[syntax::Statement],
+        otherwise: &Option<Vec<syntax::Statement>>,
     ) -> Result<Statement, Refusal> {
         let selector = self.whole(selector, Type::Dint, 0)?;
         let mut checked = Vec::new();
@@ -290,7 +290,7 @@ impl Walk {
         Ok(Statement::Case {
             selector,
             groups: checked,
-            otherwise: self.list(otherwise)?,
+            otherwise: self.list(otherwise.as_deref().unwrap_or_default())?,
         })
     }
 

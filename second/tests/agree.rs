@@ -1,6 +1,6 @@
 //! What a text means and what its image does agree, over thousands of generated cases.
 
-use second::compile::{compile_text, Accepted};
+use second::compile::{compile_text, parse, Accepted};
 use second::evaluate::{evaluate, Meaning};
 use second::generate::random::Random;
 use second::generate::{accepted_text, budget, images, layout, request, text, texts, valid_table};
@@ -204,6 +204,24 @@ fn any_text_has_one_answer() {
             "number {number} met {} times",
             met[number]
         );
+    }
+}
+
+/// What parsing refuses, compiling refuses; what it takes is refused only by what comes later.
+#[test]
+fn parsing_comes_before_the_walk() {
+    let mut random = Random::new(9);
+    for _ in 0..3_000 {
+        let text = text(&mut random);
+        let compiled = compile_text(&text).map(|_| ());
+        match (parse(&text), compiled) {
+            (Err(refusal), compiled) => assert_eq!(compiled, Err(refusal)),
+            (Ok(_), Ok(())) => {}
+            (Ok(_), Err(refusal)) => {
+                let number = refusal.fault.number();
+                assert!(![1, 2, 3, 5].contains(&number), "{refusal:?}");
+            }
+        }
     }
 }
 

@@ -61,6 +61,16 @@ fn compile_states_the_mark() {
 }
 
 #[test]
+fn parse() {
+    assert_answer(
+        &format!("P {}", hex_of(LISTING)),
+        "TREE 27 7 14 1 0 0 0 0 0 0 35 30 1 1 33 1 2 35 1 54 34 10 55 33 0 0 0 0",
+    );
+    assert_answer("P -", "REFUSED 5 0");
+    assert_answer("P 24", "REFUSED 2 0");
+}
+
+#[test]
 fn run() {
     assert_answer(&format!("R {IMAGE} 1 5"), "0 1 6 11 6");
     assert_answer(&format!("R {IMAGE} 0 5"), "20 0 0 0 5");
@@ -134,12 +144,17 @@ fn errors() {
         ("E 00 1 2 3", "fields"),
         ("F 00", "fields"),
         ("D 00 1", "fields"),
+        ("P", "fields"),
+        ("P 00 1", "fields"),
         ("C ", "hex"),
         ("C 0", "hex"),
         ("C 0A", "hex"),
         ("C 0g", "hex"),
         ("C 00\r", "hex"),
         ("C --", "hex"),
+        ("P ", "hex"),
+        ("P 0", "hex"),
+        ("P 0A", "hex"),
         ("C  00", "hex"),
         ("C 00 ", "number"),
         ("C 00 -1", "number"),
@@ -217,4 +232,25 @@ fn the_program_prints_edges() {
         assert!(answers.lines().filter(of_number).count() > 10, "{number}");
     }
     assert!(!answers.contains("ERROR"));
+}
+
+#[test]
+fn the_program_prints_texts() {
+    let texts = second(&["texts", "7", "50"], b"");
+    assert_eq!(texts, second(&["texts", "7", "50"], b""));
+    assert_ne!(texts, second(&["texts", "8", "50"], b""));
+    assert!(texts.lines().count() > 3_000);
+    assert!(texts.lines().all(|line| line.starts_with("P ")));
+    let answers: Vec<String> = texts.lines().map(|line| answer(line.as_bytes())).collect();
+    let count = |start: &str| {
+        answers
+            .iter()
+            .filter(|line| line.starts_with(start))
+            .count()
+    };
+    for number in ["1", "2", "3", "4", "5", "10"] {
+        assert!(count(&format!("REFUSED {number} ")) > 0, "{number}");
+    }
+    assert!(count("TREE ") > 1_000);
+    assert_eq!(count("ERROR"), 0);
 }

@@ -116,3 +116,35 @@ pub(crate) fn put_filled(out: &mut Buffer, waiting: usize, filled: Filled, table
     let before = put_field(out, waiting, number);
     put_table(out, before, table)
 }
+
+// A space and the number behind it.
+fn put_behind(out: &mut Buffer, waiting: usize, number: u32) -> usize {
+    let before = put(out, waiting, b' ');
+    put_number(out, before, number as u64)
+}
+
+fn put_numbers(out: &mut Buffer, waiting: usize, numbers: &[u32]) -> usize {
+    let mut now = waiting;
+    let mut i = 0;
+    while i < numbers.len() {
+        now = put_behind(out, now, numbers[i]);
+        i += 1;
+    }
+    now
+}
+
+// How many numbers a tree has, and the numbers.
+pub(crate) fn put_tree(out: &mut Buffer, waiting: usize, numbers: &[u32]) -> usize {
+    let mut now = put_all(out, waiting, b"TREE ");
+    now = put_number(out, now, numbers.len() as u64);
+    now = put_numbers(out, now, numbers);
+    put(out, now, b'\n')
+}
+
+// Why a text is refused, and where.
+pub(crate) fn put_refused(out: &mut Buffer, waiting: usize, number: u32, place: usize) -> usize {
+    let mut now = put_all(out, waiting, b"REFUSED ");
+    now = put_field(out, now, number as u64);
+    now = put_number(out, now, place as u64);
+    put(out, now, b'\n')
+}

@@ -1,12 +1,13 @@
-// Answers requests of the second program's line protocol that run an image or fill a table, one line for each, until input ends.
+// Answers requests of the second program's line protocol that run an image, fill a table or parse a text, one line for each, until input ends.
 mod answers;
 mod fields;
 mod requests;
+mod trees;
 
 use answers::Buffer;
 use libc::STDIN_FILENO;
 
-// The longest line that is read: more than the longest image and the longest table take.
+// The longest line that is read: more than the longest image or text and the longest table take.
 const LONGEST: usize = 40000;
 
 type Line = [u8; LONGEST];

@@ -3,9 +3,10 @@ use crate::answers;
 use crate::answers::Buffer;
 use crate::fields;
 use crate::fields::Read;
+use crate::trees;
 
-// The longest image and the longest table that a request may have.
-const IMAGE: usize = 16384;
+// The longest image or text, and the longest table, that a request may have: more than the longest that is good.
+const BYTES: usize = 17000;
 
 const TABLE: usize = 128;
 
@@ -40,23 +41,27 @@ fn answer_fill(image: &[u8], line: &[u8], out: &mut Buffer, waiting: usize) -> u
     fill_from(image, &mut table[..entries], out, waiting)
 }
 
-fn answer_on(image: &[u8], line: &[u8], out: &mut Buffer, waiting: usize) -> usize {
+fn answer_on(bytes: &[u8], line: &[u8], out: &mut Buffer, waiting: usize) -> usize {
     let n = fields::fields_in(line);
     let letter = fields::field(line, 0);
     if n == 4 && fields::is_byte(letter, b'R') {
-        return answer_run(image, line, out, waiting);
+        return answer_run(bytes, line, out, waiting);
     }
     if n == 3 && fields::is_byte(letter, b'F') {
-        return answer_fill(image, line, out, waiting);
+        return answer_fill(bytes, line, out, waiting);
+    }
+    // P TEXT
+    if n == 2 && fields::is_byte(letter, b'P') {
+        return trees::answer(bytes, out, waiting);
     }
     answers::put_error(out, waiting)
 }
 
-// Every request has its image first.
+// Every request has its image or its text first.
 pub(crate) fn answer(line: &[u8], out: &mut Buffer, waiting: usize) -> usize {
-    let mut image = [0u8; IMAGE];
-    let Read::Number(length) = fields::read_bytes(fields::field(line, 1), &mut image) else {
+    let mut bytes = [0u8; BYTES];
+    let Read::Number(length) = fields::read_bytes(fields::field(line, 1), &mut bytes) else {
         return answers::put_error(out, waiting);
     };
-    answer_on(&image[..length], line, out, waiting)
+    answer_on(&bytes[..length], line, out, waiting)
 }

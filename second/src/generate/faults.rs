@@ -151,6 +151,13 @@ pub fn with_faults(random: &mut Random, tokens: &mut Vec<String>) {
     }
 }
 
+/// Puts some faults into tokens that only seldom leave the syntax good.
+pub fn with_damage(random: &mut Random, tokens: &mut Vec<String>) {
+    for _ in 0..random.pick(&[1, 1, 2, 3]) {
+        damage_tokens(random, tokens);
+    }
+}
+
 fn some_byte(random: &mut Random) -> u8 {
     if random.percent(40) {
         random.byte()

@@ -277,3 +277,14 @@ pub fn next_to_a_limit(random: &mut Random) -> String {
         _ => walk_faults(random),
     }
 }
+
+/// A text next to some limit of tokens, syntax and nesting.
+pub fn next_to_a_limit_of_syntax(random: &mut Random) -> String {
+    match random.below(8) {
+        0 => name_length(random),
+        1..=3 => parentheses(random),
+        4 => nesting(random),
+        5 => fors(random),
+        _ => integers(random),
+    }
+}

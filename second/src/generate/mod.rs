@@ -6,6 +6,7 @@ pub mod images;
 pub mod layout;
 pub mod limits;
 pub mod random;
+pub mod text_edges;
 pub mod texts;
 
 use crate::compile::{compile_text, Accepted};
@@ -16,6 +17,9 @@ use random::Random;
 
 /// A worst case up to which a run may have any budget.
 const SMALL_WORST_CASE: u32 = 20_000;
+/// How long a text to parse is at most, most of the time and now and then.
+const SHORT_TEXT: usize = 180;
+const LONGER_TEXT: usize = 700;
 
 /// A valid text.
 pub fn valid_text(random: &mut Random) -> Vec<u8> {
@@ -54,6 +58,36 @@ pub fn text(random: &mut Random) -> Vec<u8> {
         11..=13 => damaged_text(random),
         14 => faults::noise(random),
         _ => limit_text(random),
+    }
+}
+
+/// A text whose syntax is what matters.
+fn text_to_parse(random: &mut Random) -> Vec<u8> {
+    match random.below(20) {
+        0..=6 => valid_text(random),
+        7..=13 => {
+            let mut tokens = texts::valid_tokens(random);
+            faults::with_damage(random, &mut tokens);
+            layout::lay_out(random, &tokens)
+        }
+        14..=16 => damaged_text(random),
+        17 => faults::noise(random),
+        _ => limits::next_to_a_limit_of_syntax(random).into_bytes(),
+    }
+}
+
+/// A text to parse that is short most of the time.
+fn short_text(random: &mut Random) -> Vec<u8> {
+    let longest = if random.percent(10) {
+        LONGER_TEXT
+    } else {
+        SHORT_TEXT
+    };
+    loop {
+        let text = text_to_parse(random);
+        if text.len() <= longest {
+            return text;
+        }
     }
 }
 
@@ -207,4 +241,12 @@ pub fn request(random: &mut Random) -> String {
         18 => fill_request(random),
         _ => desk_request(random),
     }
+}
+
+/// Requests to parse: the edges, and so many by chance.
+pub fn parse_requests(random: &mut Random, count: u64) -> Vec<String> {
+    let mut found = text_edges::all();
+    found.extend((0..count).map(|_| short_text(random)));
+    let request = |text: &Vec<u8>| format!("P {}", hex_field(text));
+    found.iter().map(request).collect()
 }

@@ -25,8 +25,8 @@ put-error-requires c κs = search needs
 returns : tie.Need-returns
 returns c = search needs
 
-array-share-prefix-image : tie.Need-array-share-prefix-image
-array-share-prefix-image c = at-most (c .before .length .given .1) (c .before .before .before .before .read-bytes .ensures)
+array-share-prefix-bytes : tie.Need-array-share-prefix-bytes
+array-share-prefix-bytes c = at-most (c .before .length .given .1) (c .before .before .before .before .read-bytes .ensures)
 
 slice-aggregate-answer-on : tie.Need-slice-aggregate-answer-on
 slice-aggregate-answer-on c = front _ (c .before .before .length .given .1) (c .before .before .before .before .before .read-bytes .ensures)
@@ -48,7 +48,7 @@ answer-spec =
     enum-told
     put-error-requires
     returns
-    array-share-prefix-image
+    array-share-prefix-bytes
     slice-aggregate-answer-on
     answer-on-requires
     returns-2)
