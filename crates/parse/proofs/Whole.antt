@@ -14,17 +14,15 @@ use Rattle.rules.specs.Tokens.{Token, tokens}
 use Rattle.rules.specs.Syntax.{Tree, Read, Reader, program, treeOf, parse}
 use Rattle.rules.specs.Cells.{cell, tokenCell, cells, treeCells, refusedLent, tokensFor, tokensLeft, scanned, treeLeft, parsedLeft, parsed}
 use Rattle.rules.specs.Compile.{memoryAfter}
-use Rattle.rules.specs.Answers.{left}
+use Rattle.rules.specs.Answers.{left, TokensFit, TreeFits}
 use Rattle.rules.specs.declared.Stage.{Stage}
 use Rattle.rules.specs.declared.Stage.the-variants.{Left, Refused}
 use Rattle.theorems.specs.Refusals.{Fine, fOk, fRefuse}
 use Rattle.theorems.specs.TokenPlaces.{tokens-in}
 use Rattle.theorems.specs.Fuel.{program-fuel}
 use Rattle.theorems.specs.ReadPlaces.{parse-refused}
-use Rattle.scan.specs.Pieces.{Counts}
 use Rattle.parse.specs.Steps.{nextOf, endOf, freeOf, Moves}
 use Rattle.parse.specs.Reading.{Ahead, Done, read, refusal, Did, reads, DidWith}
-use Rattle.parse.specs.Room.{Room}
 use Rattle.parse.specs.declared.steps.Step.{Step}
 use Rattle.parse.specs.declared.steps.Step.the-variants.{Ok, Bad}
 
@@ -73,7 +71,7 @@ has {Q} a e (fOk {a = b} h) = let same : b ≡ a = cc in rw same at h
 has a e (fRefuse n p h) = let z : _≡_ {A = ℕ} 0 1 = cc in absurd (omega arith)
 
 -- so many tokens were scanned
-pub counted : {r : Stage} (count : ℕ) → r ≡ Left count → Counts r → 3 * count ≤ tokenNumbers
+pub counted : {r : Stage} (count : ℕ) → r ≡ Left count → TokensFit r → 3 * count ≤ tokenNumbers
 counted count is h = rw is at h
 
 -- the tree lies behind the tokens, in the numbers that are published for it
@@ -100,7 +98,7 @@ module _ (text lent : List ℕ) (enough : memoryNumbers ≤ length lent) where
   enough-same = rw (le-leb memoryNumbers (length lent) enough, le-leb tokenNumbers (length lent) (omega arith))
 
   -- scanning refused: so does parsing
-  pub parsed-unscanned : {r : Stage} {m : List ℕ} (n p : ℕ) → r ≡ Refused n p → left r m ≡ scanned text lent → (left r m ≡ parsed text lent) × Room r
+  pub parsed-unscanned : {r : Stage} {m : List ℕ} (n p : ℕ) → r ≡ Refused n p → left r m ≡ scanned text lent → (left r m ≡ parsed text lent) × TreeFits r
   unfolding scanned tokensLeft parsed parsedLeft
   parsed-unscanned {r} {m} n p e q = rw (← enough-same) (go (tokensFor tokenNumbers (length lent) text) q, rw e tt)
     where
@@ -132,7 +130,7 @@ module _ (text lent : List ℕ) (enough : memoryNumbers ≤ length lent) where
       go true e = e
       go false e = let z : _≡_ {A = ℕ} 0 1 = cc in absurd (omega arith)
 
-  module _ {r : Stage} {m m₁ : List ℕ} {e : Step} (count : ℕ) (is : r ≡ Left count) (scan : (left r m ≡ scanned text lent) × Counts r)
+  module _ {r : Stage} {m m₁ : List ℕ} {e : Step} (count : ℕ) (is : r ≡ Left count) (scan : (left r m ≡ scanned text lent) × TokensFit r)
       (reading : Moves count 0 (Ok 0 tokenNumbers) e × DidWith 3 3 treeCells count m m₁ (Ok 0 tokenNumbers) e program) where
     done : (ts : List Token) → length ts ≡ count → m ≡ sets lent 0 (cells ts) → Done treeCells count m m₁ tokenNumbers e (program (4 * length ts) ts)
     done ts many lie = let few = counted count is (scan .1) in read-program lent ts many lie (omega arith) (reading .1)

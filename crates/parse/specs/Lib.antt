@@ -1,4 +1,3 @@
 pub mod Steps
 pub mod Reading
 pub mod Parts
-pub mod Room

@@ -7,8 +7,7 @@ mod steps;
 
 ghost use mathlib.Core.Path.{_≡_};
 ghost use Rattle.rules.specs.Cells.{parsed};
-ghost use Rattle.rules.specs.Answers.{left};
-ghost use Rattle.parse.specs.Room.{Room};
+ghost use Rattle.rules.specs.Answers.{left, TreeFits};
 use rules::Limits;
 use rules::Stage;
 use steps::Step;
@@ -16,7 +15,7 @@ use steps::Step;
 // The tokens of the text from the first lent number on, and the tree from number Limits::TOKEN_NUMBERS on.
 pub fn parse(text: &[u8], memory: &mut [u32]) -> Stage
     ensures means { λ r. ⌜ left r (now (memory .exit)) ≡ parsed (now (text .entry)) (now (memory .entry)) ⌝ }
-    ensures fits { λ r. ⌜ Room r ⌝ }
+    ensures fits { λ r. ⌜ TreeFits r ⌝ }
 {
     if memory.len() < Limits::MEMORY_NUMBERS {
         return Stage::Refused {

@@ -1,6 +1,6 @@
 -- What the answers of the code stand for: the numbers and values of the rules for each case.
 use mathlib.Core.List.{List}
-use Prim.Native.Nat.{ℕ}
+use Prim.Native.Nat.{ℕ, _*_, _≤_}
 use lib.ListN.{take}
 use Rattle.rules.specs.Limits.{textLimit, variableLimit, stackLimit, forLimit, codeLimit, imageLimit, memoryNumbers, memoryBytes, tokenNumbers, treeNumbers, unboundedMark}
 use Rattle.rules.specs.Base.{Res, ok, refuse}
@@ -31,6 +31,15 @@ stageAnswer (StageRefused number place) = refuse number place
 
 abbrev pub left : Stage → List ℕ → Lent
 left r memory = record { answer = stageAnswer r; memory = memory }
+
+-- the tokens, and the tree, lie in the numbers that are published for them
+abbrev pub TokensFit : Stage → Type 0
+TokensFit (Left count) = 3 * count ≤ tokenNumbers
+TokensFit (StageRefused number place) = Unit {0}
+
+abbrev pub TreeFits : Stage → Type 0
+TreeFits (Left count) = count ≤ treeNumbers
+TreeFits (StageRefused number place) = Unit {0}
 
 -- running: DONE, SPENT, RANGE, DIVIDE, and 23 to 25
 abbrev pub outcomeNumber : Outcome → ℕ

@@ -1,12 +1,9 @@
 -- What the answers of scanning's functions stand for.
 use mathlib.Core.Bool.{Bool, false}
 use mathlib.Core.List.{List, [], _∷_}
-use Prim.Native.Nat.{ℕ, _*_, _≤_}
-use Rattle.rules.specs.Limits.{tokenNumbers}
+use Prim.Native.Nat.{ℕ}
 use Rattle.rules.specs.Tokens.{Piece, gap, tok, bad, symbol2, inLine, inName, inInteger}
 use Rattle.rules.specs.Cells.{datum}
-use Rattle.rules.specs.declared.Stage.{Stage}
-use Rattle.rules.specs.declared.Stage.the-variants.{Left, Refused}
 use Rattle.scan.specs.declared.bytes.Run.{Run}
 use Rattle.scan.specs.declared.bytes.Run.the-variants.{Line, Name, Integer}
 use Rattle.scan.specs.declared.pieces.Piece as Code
@@ -31,8 +28,3 @@ bytesOf Integer = inInteger
 -- the symbol of two bytes; where there is no second one, y is 0
 unfoldable pub pairKind : ℕ → ℕ → ℕ
 pairKind x y = symbol2 (x ∷ y ∷ [])
-
--- the tokens lie in the numbers that are published for them
-abbrev pub Counts : Stage → Type 0
-Counts (Left count) = 3 * count ≤ tokenNumbers
-Counts (Refused number place) = Unit {0}

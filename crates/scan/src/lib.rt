@@ -10,9 +10,8 @@ mod words;
 ghost use mathlib.Core.Path.{_≡_};
 ghost use lib.ListN.{length, replicate};
 ghost use Rattle.rules.specs.Cells.{scanned};
-ghost use Rattle.rules.specs.Answers.{left};
+ghost use Rattle.rules.specs.Answers.{left, TokensFit};
 ghost use Rattle.rules.specs.declared.Stage.the-variants.{Refused};
-ghost use Rattle.scan.specs.Pieces.{Counts};
 use pieces::Piece;
 use rules::Kind;
 use rules::Limits;
@@ -40,7 +39,7 @@ fn refuse(memory: &mut [u32], number: u32, place: usize) -> Stage
 // The tokens of the text, three numbers each, from the first lent number on.
 pub fn scan(text: &[u8], memory: &mut [u32]) -> Stage
     ensures means { λ r. ⌜ left r (now (memory .exit)) ≡ scanned (now (text .entry)) (now (memory .entry)) ⌝ }
-    ensures fits { λ r. ⌜ Counts r ⌝ }
+    ensures fits { λ r. ⌜ TokensFit r ⌝ }
 {
     if memory.len() < Limits::TOKEN_NUMBERS {
         return Stage::Refused {

@@ -7,7 +7,7 @@ use lib.Seq.{length-take-le}
 use Rattle.rules.specs.Limits.{treeNumbers}
 use Rattle.rules.specs.declared.Stage.{Stage}
 use Rattle.rules.specs.declared.Stage.the-variants.{Left}
-use Rattle.parse.specs.Room.{Room}
+use Rattle.rules.specs.Answers.{TreeFits}
 use Rattle.vectors.specs.Within.{Within}
 use Rattle.vectors.specs.declared.fields.Read.{Read}
 use Rattle.vectors.specs.declared.fields.Read.the-variants.{Number}
@@ -18,5 +18,5 @@ at-most e w = rw e at w
 pub front : {A : Type 0} (l : List A) {r : Read} {n : ℕ} → r ≡ Number n → Within r (length l) → n ≡ length (take n l)
 front l e w = sym (length-take-le _ l (at-most e w))
 
-pub tree-fits : {r : Stage} {n : ℕ} → r ≡ Left n → Room r → n ≤ treeNumbers
+pub tree-fits : {r : Stage} {n : ℕ} → r ≡ Left n → TreeFits r → n ≤ treeNumbers
 tree-fits e w = rw e at w
