@@ -116,7 +116,7 @@ pub fn rem(a: i32, b: i32) -> Answer
 }
 
 // Two's complement: the number whose bits are n.
-fn signed(n: u32) -> i32
+pub fn signed(n: u32) -> i32
     ensures { λ r. ⌜ r ≡ ofU n ⌝ }
 {
     if n < 2147483648 {

@@ -163,7 +163,7 @@ pub fn initial(vars: &[u8], slot: usize) -> i32
 }
 
 // Bytes are put at an offset of a buffer, all of them or none.
-fn put(buffer: &mut [u8], at: usize, bytes: &[u8]) -> bool
+pub fn put(buffer: &mut [u8], at: usize, bytes: &[u8]) -> bool
     ensures { λ r. ⌜ (r ≡ fits (now (buffer .entry)) at (now (bytes .entry))) × (now (buffer .exit) ≡ putAt (now (buffer .entry)) at (now (bytes .entry))) ⌝ }
 {
     let mut k = 0;

@@ -4,17 +4,25 @@ use Prim.Native.Nat.{ℕ, _*_, _≤_}
 use lib.ListN.{take}
 use Rattle.rules.specs.Limits.{textLimit, variableLimit, stackLimit, forLimit, codeLimit, imageLimit, memoryNumbers, memoryBytes, tokenNumbers, treeNumbers, unboundedMark}
 use Rattle.rules.specs.Base.{Res, ok, refuse}
+use Rattle.rules.specs.Core.{Program}
+use Rattle.rules.specs.Depth.{depthL}
 use Rattle.rules.specs.Meaning.{Table}
+use Rattle.rules.specs.Worst.{worstL, figure}
 use Rattle.rules.specs.Run.{Report as Reported, Filling}
 use Rattle.rules.specs.Compile.{Answer, accepted, refused}
+use Rattle.rules.specs.Evaluate.{Told}
 use Rattle.rules.specs.Cells.{Lent}
 use Rattle.rules.specs.declared.Stage.{Stage}
 use Rattle.rules.specs.declared.Stage.the-variants.{Left, Refused as StageRefused}
+use Rattle.rules.specs.declared.Figured.{Figured}
+use Rattle.rules.specs.declared.Figured.the-variants.{Figures, Refused as FiguredRefused}
 use Rattle.rules.specs.declared.Compiled.{Compiled}
 use Rattle.rules.specs.declared.Compiled.the-variants.{Accepted, Refused}
 use Rattle.rules.specs.declared.Outcome.{Outcome}
 use Rattle.rules.specs.declared.Outcome.the-variants.{Done, Spent, Range, Divide, BadImage, BadTable, BadCode}
 use Rattle.rules.specs.declared.Report.{Report}
+use Rattle.rules.specs.declared.Evaluated.{Evaluated}
+use Rattle.rules.specs.declared.Evaluated.the-variants.{Told as EvaluatedTold, Refused as EvaluatedRefused}
 use Rattle.rules.specs.declared.Filled.{Filled}
 use Rattle.rules.specs.declared.Filled.the-variants.{Done as FillDone, BadImage as FillBadImage, BadTable as FillBadTable}
 use Rattle.rules.specs.declared.Limits.{Limits}
@@ -23,6 +31,11 @@ use Rattle.rules.specs.declared.Limits.{Limits}
 abbrev pub said : Compiled → List ℕ → Answer
 said (Accepted image code depth worst) buffer = accepted (take image buffer) code depth worst
 said (Refused number place) buffer = refused number place
+
+-- depth and worst case, or the refusal
+abbrev pub figured : Res Program → Figured
+figured (ok p) = Figures (depthL (p .body)) (figure (worstL (p .body)))
+figured (refuse number place) = FiguredRefused number place
 
 -- a stage of compiling: the answer, with working memory as it is afterwards
 abbrev pub stageAnswer : Stage → Res ℕ
@@ -54,6 +67,11 @@ outcomeNumber BadCode = 25
 -- a run's report, with the table as it is afterwards
 abbrev pub reported : Report → Table → Reported
 reported r t = record { outcome = outcomeNumber (r .outcome); ticks = r .ticks; instructions = r .instructions; offset = r .offset; table = t }
+
+-- compiling and running: what evaluating tells, with the table as it is afterwards
+abbrev pub evaluatedAs : Evaluated → Table → Res Told
+evaluatedAs (EvaluatedTold outcome ticks) t = ok (record { outcome = outcomeNumber outcome; ticks = ticks; table = t })
+evaluatedAs (EvaluatedRefused number place) t = refuse number place
 
 -- filling: done, 23, or 24
 abbrev pub fillNumber : Filled → ℕ

@@ -23,7 +23,9 @@ pub mod Run
 -- From the text's bytes to the answer
 pub mod Compile
 pub mod Evaluate
+-- How tokens, the tree and the core program lie in lent numbers; what the answers of the code stand for
 pub mod Cells
+pub mod CoreCells
 pub mod Answers
 -- Worked cases
 pub mod Opened

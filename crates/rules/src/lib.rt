@@ -10,6 +10,14 @@ pub enum Stage {
     Refused { number: u32, place: usize },
 }
 
+// What is stated of the code of a text that the walk accepts.
+pub enum Figured {
+    // The depth, and the worst case (Limits::UNBOUNDED is the mark).
+    Figures { depth: u32, worst: u32 },
+    // The number of the list, and the place in the text.
+    Refused { number: u32, place: usize },
+}
+
 // What compiling answers.
 pub enum Compiled {
     // The bytes of the image and of its code, the depth, and the worst case (Limits::UNBOUNDED is the mark).
@@ -60,6 +68,14 @@ pub struct Report {
     pub ticks: u32,
     pub instructions: u64,
     pub offset: usize,
+}
+
+// What compiling a text and running it once answers.
+pub enum Evaluated {
+    // How the run ended, and the ticks it took.
+    Told { outcome: Outcome, ticks: u32 },
+    // The compiler's refusal: the number of the list, and the place in the text.
+    Refused { number: u32, place: usize },
 }
 
 // What filling a table with initial values answers.

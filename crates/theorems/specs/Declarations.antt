@@ -3,7 +3,7 @@ use mathlib.Core.Path.{_≡_, refl, ap, subst}
 use mathlib.Core.Bool.{true, false}
 use mathlib.Core.List.{List, [], _∷_, _++_}
 use mathlib.Core.Option.{Option, none, some}
-use Prim.Native.Nat.{ℕ, zero, suc, _≤_}
+use Prim.Native.Nat.{zero, suc, _≤_}
 use native.Mathlib.Omega.{arith}
 use lib.IntN.{ℤ, pos}
 use lib.Dec.{ltb}
@@ -11,13 +11,11 @@ use lib.ListN.{length, length-append}
 use Rattle.rules.specs.Limits.{variableLimit}
 use Rattle.rules.specs.Base.{ok, need}
 use Rattle.rules.specs.Numbers.{Ty, bool, dint, low, high, between, holds, sameTy, ofBool}
-use Rattle.rules.specs.Syntax.{Con, conBool, conInt, Decl, parse}
-use Rattle.rules.specs.Walk.{Var, nameless, find, isNone, conType, conValue, largest, exact, initial, declare, declareAll, walk, list}
+use Rattle.rules.specs.Syntax.{Con, conBool, conInt, Decl}
+use Rattle.rules.specs.Walk.{Var, nameless, find, isNone, conType, conValue, largest, exact, initial, declare, declareAll}
 use Rattle.theorems.specs.WellTyped.{inv, ok-inj, needed, same-ty}
 use Rattle.theorems.specs.Tests.{leb-t, le-leb}
-use Rattle.rules.specs.Core.{Variable, Program}
-use Rattle.rules.specs.Compile.{front}
-use Rattle.rules.specs.Tokens.{tokens}
+use Rattle.rules.specs.Core.{Variable}
 
 -- every type holds its variable's initial value
 abbrev pub Held : List Variable → Type 0
@@ -82,13 +80,3 @@ declare-all [] vs ws h e = subst (λ y. Declared (nameless y)) (ok-inj e) h
 declare-all (d ∷ ds) vs ws h e =
     let a = inv (declare vs d) _ e in
     declare-all ds (a .0) ws (declare-one vs (a .0) d (h .held) (a .1)) (a .2)
-
--- the variables of what passes tokens, syntax and the walk
-pub front-declared : (text : List ℕ) (p : Program) → front text ≡ ok p → Declared (p .vars)
-unfolding front walk nameless
-front-declared text p e =
-    let a = inv (tokens text) _ e in
-    let b = inv (parse (a .0)) _ (a .2) in
-    let c = inv (declareAll [] (b .0 .decls)) _ (b .2) in
-    let d = inv (list (c .0) (b .0 .body) [] false) _ (c .2) in
-    subst (λ y. Declared (y .vars)) (ok-inj (d .2)) (declare-all (b .0 .decls) [] (c .0) (record { few = omega arith; held = tt }) (c .1))

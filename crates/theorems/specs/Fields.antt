@@ -4,7 +4,7 @@ use mathlib.Core.Path.{_≡_, refl}
 use mathlib.Core.Bool.{true, false}
 use Prim.Native.Nat.{ℕ, suc, _+_, _≤_, _<_}
 use native.Mathlib.Omega.{arith}
-use lib.IntN.{ℤ}
+use lib.IntN.{ℤ, pos, negsuc}
 use lib.Signed.{mag}
 use Rattle.rules.specs.Numbers.{Ty, ofBool}
 use Rattle.rules.specs.Core.{Expr, num, flag, var, un, bin, pls, par, Labels, lnil, lab, Stmt, List, Brs, Grps, assign, if, case, for, while, repeat, exit, nil, cons, none, els, elsif, other, grp}
@@ -13,7 +13,7 @@ use Rattle.rules.specs.Codes.{Instr, encAll}
 use Rattle.rules.specs.Machine.{view, run, codeIn, start}
 use Rattle.rules.specs.Translation.{codeE, codeLb, jmp, sizeS, sizeL, sizeB, sizeG, codeS, codeL, codeB, codeG, prog, codeOf}
 use Rattle.rules.specs.Depth.{depthL}
-use Rattle.theorems.specs.Levels.{forsS, forsL, forsB, forsG}
+use Rattle.theorems.specs.Levels.{levelsS, forsS, forsL, forsB, forsG}
 use Rattle.theorems.specs.Decoding.{AllFit, stands}
 use Rattle.theorems.specs.Simulation.{correct}
 
@@ -21,8 +21,10 @@ use Rattle.theorems.specs.Simulation.{correct}
 abbrev pub Z32 : ℤ → Type 0
 Z32 z = mag z < 2147483648
 
+-- a text writes no negative number: a minus before an integer is an operator
 abbrev pub FitE : Expr → Type 0
-FitE (num z) = Z32 z
+FitE (num (pos n)) = n < 2147483648
+FitE (num (negsuc n)) = ⊥
 FitE (flag b) = Unit {0}
 FitE (var i) = i < 256
 FitE (un ι o a) = FitE a
@@ -59,7 +61,8 @@ abbrev mutual
 
 fitE : (e : Expr) (r : L.List Instr) → FitE e → AllFit r → AllFit (codeE e r)
 unfolding codeE ofBool
-fitE (num z) r f g = (f, g)
+fitE (num (pos n)) r f g = (f, g)
+fitE (num (negsuc n)) r f g = absurd f
 fitE (flag true) r f g = (omega arith, g)
 fitE (flag false) r f g = (omega arith, g)
 fitE (var i) r f g = (f, g)
@@ -80,7 +83,7 @@ fitJ (els l) a r b g = (b, g)
 fitJ (elsif e l c) a r b g = (b, g)
 
 mutual
-  unfolding codeS sizeS forsS
+  unfolding codeS sizeS levelsS
 
   fitS : (s : Stmt) (p x n : ℕ) (r : L.List Instr) → FitS s → p + sizeS s < 65536 → x < 65536 → n + forsS s ≤ 256 → AllFit r → AllFit (codeS s p x n r)
   fitS (assign i e) p x n r f b y w g = (tt, fitE e _ (f .1) (f .0, g))

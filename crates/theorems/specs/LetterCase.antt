@@ -44,7 +44,7 @@ of-upper p h x = by (isSmall x) refl
 
 -- Texts
 
-length-fold : (s : List ℕ) → length (fold s) ≡ length s
+pub length-fold : (s : List ℕ) → length (fold s) ≡ length s
 unfolding fold
 length-fold [] = refl
 length-fold (x ∷ s) = ap suc (length-fold s)

@@ -1,26 +1,59 @@
--- How deep FORs are nested in a core program.
+-- How deep statements are nested in a core program.
 use Prim.Native.Nat.{ℕ, suc, max}
 use Rattle.rules.specs.Core.{Stmt, List, Brs, Grps, assign, if, case, for, while, repeat, exit, nil, cons, none, els, elsif, other, grp}
 
-unfoldable mutual
-  pub forsS : Stmt → ℕ
-  forsS (assign i e) = 0
-  forsS (if b) = forsB b
-  forsS (case e g) = forsG g
-  forsS (for v a e s l) = suc (forsL l)
-  forsS (while c l) = forsL l
-  forsS (repeat l c) = forsL l
-  forsS exit = 0
+-- a FOR is one level more than its list; up: what IF, CASE, WHILE and REPEAT are
+module _ (up : ℕ → ℕ) where
+  unfoldable mutual
+    pub levelsS : Stmt → ℕ
+    levelsS (assign i e) = 0
+    levelsS (if b) = up (levelsB b)
+    levelsS (case e g) = up (levelsG g)
+    levelsS (for v a e s l) = suc (levelsL l)
+    levelsS (while c l) = up (levelsL l)
+    levelsS (repeat l c) = up (levelsL l)
+    levelsS exit = 0
 
-  pub forsL : List → ℕ
-  forsL nil = 0
-  forsL (cons s l) = max (forsS s) (forsL l)
+    pub levelsL : List → ℕ
+    levelsL nil = 0
+    levelsL (cons s l) = max (levelsS s) (levelsL l)
 
-  pub forsB : Brs → ℕ
-  forsB none = 0
-  forsB (els l) = forsL l
-  forsB (elsif c l b) = max (forsL l) (forsB b)
+    pub levelsB : Brs → ℕ
+    levelsB none = 0
+    levelsB (els l) = levelsL l
+    levelsB (elsif c l b) = max (levelsL l) (levelsB b)
 
-  pub forsG : Grps → ℕ
-  forsG (other l) = forsL l
-  forsG (grp ls l g) = max (forsL l) (forsG g)
+    pub levelsG : Grps → ℕ
+    levelsG (other l) = levelsL l
+    levelsG (grp ls l g) = max (levelsL l) (levelsG g)
+
+-- how deep FORs are nested: the others add nothing
+
+abbrev pub onlyFors : ℕ → ℕ
+onlyFors d = d
+
+abbrev pub forsS : Stmt → ℕ
+forsS s = levelsS onlyFors s
+
+abbrev pub forsL : List → ℕ
+forsL l = levelsL onlyFors l
+
+abbrev pub forsB : Brs → ℕ
+forsB b = levelsB onlyFors b
+
+abbrev pub forsG : Grps → ℕ
+forsG g = levelsG onlyFors g
+
+-- how deep IF, CASE and loops are nested: each adds one
+
+abbrev pub nestS : Stmt → ℕ
+nestS s = levelsS suc s
+
+abbrev pub nestL : List → ℕ
+nestL l = levelsL suc l
+
+abbrev pub nestB : Brs → ℕ
+nestB b = levelsB suc b
+
+abbrev pub nestG : Grps → ℕ
+nestG g = levelsG suc g

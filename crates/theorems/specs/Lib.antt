@@ -27,7 +27,7 @@ pub mod Accepted
 pub mod WellTyped
 pub mod WalkAccepts
 pub mod Nesting
-pub mod ForNesting
+pub mod WalkNesting
 pub mod Declarations
 pub mod Promise
 pub mod Records
@@ -46,6 +46,7 @@ pub mod TokenPlaces
 pub mod TreePlaces
 pub mod ReadPlaces
 pub mod WalkPlaces
+pub mod Spelling
 pub mod Listed
 pub mod Lines
 -- The demands, on one page

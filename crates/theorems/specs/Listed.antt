@@ -17,7 +17,7 @@ use Rattle.theorems.specs.WalkPlaces.{walk-fine}
 
 front-fine : (text : List ℕ) → Fine (length text) Any (front text)
 unfolding front
-front-fine text = chain (tokens-in text) (λ ts h. chain (parse-in ts h) (λ tree k. walk-fine k))
+front-fine text = chain (tokens-in text) (λ ts h. chain (parse-in ts h) (λ tree k. walk-fine _ _ k))
 
 -- a text that is too long has a byte at the limit
 long-fine : (N : ℕ) → Fine N Any (need (leb N textLimit) 1 textLimit)

@@ -21,10 +21,10 @@ use Rattle.rules.specs.Image.{typeByte, varBytes, figureBytes, image}
 use Rattle.rules.specs.Compile.{accepted, compile}
 use Rattle.theorems.specs.Tests.{leb-t}
 use Rattle.theorems.specs.Decoding.{Fits, AllFit}
-use Rattle.theorems.specs.Declarations.{Held, Declared, front-declared}
+use Rattle.theorems.specs.Declarations.{Held, Declared}
 use Rattle.theorems.specs.Sizes.{code-length}
 use Rattle.theorems.specs.Accepted.{Accepted}
-use Rattle.theorems.specs.Promise.{parts, promised, by-program}
+use Rattle.theorems.specs.Promise.{front-fits, parts, promised, by-program}
 use Rattle.theorems.specs.Fields.{code-fits}
 use Rattle.theorems.specs.Records.{held-small}
 
@@ -152,4 +152,4 @@ image-bytes p a v =
 
 pub bytes-only : (lent capacity : ℕ) (text i : List ℕ) (c d w : ℕ) → compile lent capacity text ≡ accepted i c d w → AllBelow 256 i
 bytes-only lent capacity text i c d w e = by-program lent capacity text i c d w e (λ i c d w. AllBelow 256 i)
-    (λ p h. image-bytes p (promised lent capacity text p h) (front-declared text p (parts lent capacity text p h .fronted)))
+    (λ p h. image-bytes p (promised lent capacity text p h) (front-fits text p (parts lent capacity text p h .fronted) .walked .declared))

@@ -1,75 +1,83 @@
--- What the compiler accepts is what the theorems assume, from the text's bytes.
+-- What the walk guarantees of its program; and what the compiler accepts is what the theorems assume, from the text's bytes.
 use mathlib.Core.List as L
-use mathlib.Core.Path.{_≡_, refl, sym, ap, subst}
+use mathlib.Core.Path.{_≡_, refl, ap, subst}
 use mathlib.Core.Bool.{false}
 use mathlib.Core.List.{[], _∷_}
-use Prim.Native.Nat.{ℕ, suc, _*_, _≤_}
+use Prim.Native.Nat.{ℕ, suc, _≤_}
 use native.Mathlib.Omega.{arith}
 use lib.Dec.{leb}
 use lib.ListN.{length}
-use Rattle.rules.specs.Core.{List, Program, Variable}
-use Rattle.rules.specs.Translation.{codeOf}
+use Rattle.rules.specs.Limits.{memoryNumbers, textLimit, codeLimit, nestingLimit, forLimit, stackLimit}
 use Rattle.rules.specs.Base.{Res, ok, refuse, need}
-use Rattle.rules.specs.Tokens.{Token, tokens}
-use Rattle.rules.specs.Syntax.{Tree, Read, got, bad, program, treeOf, parse}
-use Rattle.rules.specs.Walk.{declareAll, list, walk, nameless, Var}
-use Rattle.rules.specs.Compile.{accepted, refused, front, answer, compile, compiled, Answer}
+use Rattle.rules.specs.Core.{List, Program, Variable, types}
+use Rattle.rules.specs.Tokens.{tokens}
+use Rattle.rules.specs.Syntax.{Stms, Tree, parse}
+use Rattle.rules.specs.Walk.{Var, nameless, declareAll, list, walk}
+use Rattle.rules.specs.Translation.{codeOf}
+use Rattle.rules.specs.Depth.{depthL}
+use Rattle.rules.specs.Worst.{figure, worstL}
 use Rattle.rules.specs.Image.{image}
-use Rattle.rules.specs.Core.{types}
+use Rattle.rules.specs.Compile.{accepted, refused, front, answer, compile, compiled, Answer}
+use Rattle.theorems.specs.Tests.{leb-t}
+use Rattle.theorems.specs.WorstCase.{WfL}
+use Rattle.theorems.specs.Typing.{TyL}
+use Rattle.theorems.specs.Levels.{forsL, nestL}
+use Rattle.theorems.specs.Fields.{FitL}
 use Rattle.theorems.specs.Sizes.{code-length}
 use Rattle.theorems.specs.Accepted.{Accepted}
 use Rattle.theorems.specs.WellTyped.{inv, ok-inj, needed}
 use Rattle.theorems.specs.WalkAccepts.{okL}
-use Rattle.theorems.specs.Nesting.{forsL, Always, drop, pass, bind, gives, listIn}
-use Rattle.theorems.specs.ForNesting.{keepL}
-use Rattle.rules.specs.Limits.{memoryNumbers, textLimit, codeLimit}
-use Rattle.theorems.specs.Declarations.{declare-all}
-use Rattle.theorems.specs.Tests.{leb-t}
-use Rattle.rules.specs.Depth.{depthL}
-use Rattle.rules.specs.Worst.{figure, worstL}
+use Rattle.theorems.specs.WalkNesting.{nested, fors-nested}
+use Rattle.theorems.specs.Declarations.{Declared, declare-all}
 
 pub types-length : (vs : L.List Variable) → length (types vs) ≡ length vs
 unfolding types
 types-length [] = refl
 types-length (v ∷ vs) = ap suc (types-length vs)
 
--- at most 8 FORs nested
+-- every number and slot fits its field, the stack suffices, types are right, rules 11 and 15; at most 64 variables, each with a value that its type holds
+pub record Walked (p : Program) : Type 0 where
+  pub fits : FitL (p .body)
+  pub deep : depthL (p .body) ≤ stackLimit
+  pub typed : TyL (types (p .vars)) (p .body)
+  pub wf : WfL (p .body)
+  pub declared : Declared (p .vars)
 
-program-in : (f : ℕ) → Always (λ t. forsL (t .body) ≤ 8) (program f)
-unfolding program
-program-in f = drop _ _ (drop _ _ (pass _ _ (λ ds. bind _ _ (listIn f 0 0 (omega arith)) (λ l q. drop _ _ (drop _ _ (gives _ (omega arith)))))))
+walked : (vs : L.List Var) (l : Stms) (c : List) → Declared (nameless vs) → list vs l [] false ≡ ok c → Walked (record { vars = nameless vs; body = c })
+walked vs l c d h =
+    let few = d .few in
+    let k = types-length (nameless vs) in
+    let f = okL vs (omega arith) l [] false c h in
+    record { fits = f .fit; deep = f .deep; typed = f .ty; wf = f .wf; declared = d }
 
-parse-in : (ts : L.List Token) (t : Tree) → parse ts ≡ ok t → forsL (t .body) ≤ 8
-unfolding parse treeOf
-parse-in ts t e = by (program (4 * length ts) ts) refl e
-  where
-    by : (r : Read Tree) → program (4 * length ts) ts ≡ r → treeOf r ≡ ok t → forsL (t .body) ≤ 8
-    by (got u us) w q = subst (λ y. forsL (y .body) ≤ 8) (ok-inj q) (program-in (4 * length ts) .always ts us u w)
-    by (bad n p) w q = let z : _≡_ {A = ℕ} 0 1 = cc in absurd (omega arith)
-
--- the walk's program, if its code is short enough
-walk-in : (t : Tree) (p : Program) → forsL (t .body) ≤ 8 → walk t ≡ ok p → length (codeOf (p .body)) ≤ 8192 → Accepted (types (p .vars)) (p .body)
-unfolding walk codeOf nameless
-walk-in t p n e s =
+pub walk-fits : (t : Tree) (p : Program) → walk t ≡ ok p → Walked p
+unfolding walk nameless
+walk-fits t p e =
     let a = inv (declareAll [] (t .decls)) _ e in
     let b = inv (list (a .0) (t .body) [] false) _ (a .2) in
-    let q = ok-inj (b .2) in
-    subst (λ y. Accepted (types (y .vars)) (y .body)) q (made (a .0) (b .0) (declare-all (t .decls) [] (a .0) (record { few = omega arith; held = tt }) (a .1) .few) (b .1) (subst (λ y. length (codeOf (y .body)) ≤ 8192) (sym q) s))
-  where
-    made : (vs : L.List Var) (l : List) → length (nameless vs) ≤ 64 → list vs (t .body) [] false ≡ ok l → length (codeOf l) ≤ 8192 → Accepted (types (nameless vs)) l
-    made vs l few h s =
-        let k = types-length (nameless vs) in
-        let f = okL vs (omega arith) (t .body) [] false l h in
-        let c = code-length l in
-        let m = keepL vs (t .body) [] false l h in
-        record { fits = f .fit; short = omega arith; fors = omega arith; deep = f .deep; typed = f .ty; wf = f .wf }
+    subst Walked (ok-inj (b .2)) (walked (a .0) (t .body) (b .0) (declare-all (t .decls) [] (a .0) (record { few = omega arith; held = tt }) (a .1)) (b .1))
 
-front-in : (text : L.List ℕ) (p : Program) → front text ≡ ok p → length (codeOf (p .body)) ≤ 8192 → Accepted (types (p .vars)) (p .body)
+-- what passes tokens, syntax and the walk keeps the limits of nesting too
+pub record Fronted (p : Program) : Type 0 where
+  pub walked : Walked p
+  pub nests : nestL (p .body) ≤ nestingLimit
+  pub fors : forsL (p .body) ≤ forLimit
+
+pub front-fits : (text : L.List ℕ) (p : Program) → front text ≡ ok p → Fronted p
 unfolding front
-front-in text p h s =
-    let a = inv (tokens text) _ h in
+front-fits text p e =
+    let a = inv (tokens text) _ e in
     let b = inv (parse (a .0)) _ (a .2) in
-    walk-in (b .0) p (parse-in (a .0) (b .0) (b .1)) (b .2) s
+    record { walked = walk-fits (b .0) p (b .2); nests = nested (a .0) (b .0) p (b .1) (b .2); fors = fors-nested (a .0) (b .0) p (b .1) (b .2) }
+
+-- if its code is short enough, it meets what the theorems ask
+front-in : (text : L.List ℕ) (p : Program) → front text ≡ ok p → length (codeOf (p .body)) ≤ 8192 → Accepted (types (p .vars)) (p .body)
+unfolding codeOf
+front-in text p h s =
+    let f = front-fits text p h in
+    let w = f .walked in
+    let c = code-length (p .body) in
+    record { fits = w .fits; short = omega arith; fors = f .fors; deep = w .deep; typed = w .typed; wf = w .wf }
 
 -- what is compiled comes from the text's own faults being none, and from code that is short enough
 pub record Parts (text : L.List ℕ) (p : Program) : Type 0 where

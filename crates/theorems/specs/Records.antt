@@ -20,8 +20,8 @@ use Rattle.rules.specs.Image.{typeByte, varBytes, figureBytes, image, typeIn, v
 use Rattle.rules.specs.Compile.{compiled}
 use Rattle.theorems.specs.Tests.{le-leb, leb-t, and-r, and-l}
 use Rattle.theorems.specs.Decoding.{bytes-sum, ofU-toU}
-use Rattle.theorems.specs.Declarations.{Held, Declared, front-declared}
-use Rattle.theorems.specs.Promise.{parts}
+use Rattle.theorems.specs.Declarations.{Held, Declared}
+use Rattle.theorems.specs.Promise.{front-fits, parts}
 
 -- Records
 
@@ -74,4 +74,4 @@ image-back p k s =
 
 pub reads-back : (lent capacity : ℕ) (text : List ℕ) (p : Program) → compiled lent capacity text ≡ ok p
     → imageIn (image p) ≡ some (record { vars = p .vars; code = codeOf (p .body) })
-reads-back lent capacity text p e = let c = parts lent capacity text p e in image-back p (front-declared text p (c .fronted)) (c .short)
+reads-back lent capacity text p e = let c = parts lent capacity text p e in image-back p (front-fits text p (c .fronted) .walked .declared) (c .short)

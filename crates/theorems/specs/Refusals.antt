@@ -1,6 +1,8 @@
 -- A refusal that the list allows, and results that refuse in no other way.
+use mathlib.Core.Path.{_≡_, subst}
 use mathlib.Core.Bool.{Bool, true, false}
 use Prim.Native.Nat.{ℕ, _≤_}
+use native.Mathlib.Omega.{arith}
 use Rattle.rules.specs.Base.{pick, Res, ok, refuse, _>>=_, need}
 
 -- N: the bytes of the text; n, p: the refusal's number and place
@@ -13,6 +15,11 @@ pub record Allowed (N n p : ℕ) : Type 0 where
 pub data Fine {A : Type 0} (N : ℕ) (Q : A → Type 0) : Res A → Type 0 where
   fOk : {a : A} → Q a → Fine N Q (ok a)
   fRefuse : (n p : ℕ) → Allowed N n p → Fine N Q (refuse n p)
+
+-- an answer that is there has the property
+pub has : {A : Type 0} {N : ℕ} {Q : A → Type 0} {r : Res A} (a : A) → r ≡ ok a → Fine N Q r → Q a
+has {Q} a e (fOk {a = b} h) = let same : b ≡ a = cc in subst (λ y. Q y) same h
+has a e (fRefuse n p h) = let z : _≡_ {A = ℕ} 0 1 = cc in absurd (omega arith)
 
 pub chain : {A B : Type 0} {N : ℕ} {P : A → Type 0} {Q : B → Type 0} {r : Res A} {f : A → Res B} → Fine N P r → ((a : A) → P a → Fine N Q (f a)) → Fine N Q (_>>=_ r f)
 unfolding _>>=_

@@ -17,7 +17,7 @@ use Rattle.rules.specs.Machine.{state, on, end, bump, view, isTick, Code, okJum
 use Rattle.rules.specs.Translation.{sizeE, codeE, sizeLb, codeLb, jlen, jmp, sizeS, sizeL, sizeB, sizeG, codeS, codeL, codeB, codeG}
 use Rattle.rules.specs.Depth.{height, depthS, depthL, depthB, depthG}
 use Rattle.theorems.specs.Running.{step-at, step-tk, run-spent, run-tick}
-use Rattle.theorems.specs.Levels.{forsS, forsL, forsB, forsG}
+use Rattle.theorems.specs.Levels.{levelsS, forsS, forsL, forsB, forsG}
 use Rattle.theorems.specs.Expressions.{At, onA, see, see-on, see-end, see-act, restE, simE, push-ok}
 use Rattle.theorems.specs.TicksFall.{AtMost, execL-le}
 use Rattle.theorems.specs.Tests.{lt-ltb}
@@ -349,7 +349,7 @@ module _ (c : Code) where
       by false w f = w ∙ K′ f
 
   mutual
-    unfolding codeS sizeS depthS forsS exec
+    unfolding codeS sizeS depthS levelsS exec
 
     pub simS : (s : Stmt) (R : Ans) (k p x n : ℕ) (h : L.List ℤ) (t : Table) (r : L.List Instr) → At c p (codeS s p x n r) → p + sizeS s ≤ x
         → depthS s ≤ c .cap → n + forsS s ≤ length h → Fin R (p + sizeS s) x n h (exec (c .types) s t k) → see c k p [] h t ≡ R

@@ -1,13 +1,14 @@
--- The tokens of a text have their places in it, and so have the refusals.
-use mathlib.Core.Path.{_≡_, refl}
+-- The tokens of a text have their places in it, and so have the refusals; and a property that every piece has, all tokens have.
+use mathlib.Core.Path.{_≡_, refl, _∙_, sym, ap}
 use mathlib.Core.Bool.{Bool, not}
 use mathlib.Core.List.{List, [], _∷_}
 use mathlib.Core.Option.{Option, none, some}
 use Prim.Native.Nat.{ℕ, zero, suc, _+_, _-_, _≤_}
 use native.Mathlib.Omega.{arith}
 use lib.Dec.{eqb, leb}
-use lib.ListN.{length, drop, length-drop}
-use Rattle.rules.specs.Base.{pick, Res, ok}
+use lib.ListN.{length, take, drop, length-drop}
+use lib.Seq.{drop-drop}
+use Rattle.rules.specs.Base.{pick, Res}
 use Rattle.rules.specs.Limits.{integerLimit}
 use Rattle.rules.specs.Kinds.{FINISH, NAME}
 use Rattle.rules.specs.Tokens.{Token, plain, run, starts, comment, reserved, lookup, wordKind, word, fold, isName, inLine, inName, inInteger, isBlank, startsName, isDigit, integer, symbol1, symbol2, Piece, gap, tok, bad, commentPiece, namePiece, integerPiece, symbolPiece, piece, put, follow, tokensAt, tokens}
@@ -17,6 +18,10 @@ use Rattle.theorems.specs.Refusals.{Fine, fOk, fRefuse, either}
 pub data Each {A : Type 0} (P : A → Type 0) : List A → Type 0 where
   eNil : Each P []
   eCons : {a : A} {s : List A} → P a → Each P s → Each P (a ∷ s)
+
+pub each-on : {A : Type 0} {P Q : A → Type 0} {s : List A} → ((a : A) → P a → Q a) → Each P s → Each Q s
+each-on f eNil = eNil
+each-on f (eCons h k) = eCons (f _ h) (each-on f k)
 
 -- the token's place is in the text
 abbrev pub At : ℕ → Token → Type 0
@@ -33,6 +38,12 @@ pub run-short : (p : ℕ → Bool) (s : List ℕ) → length (run p s) ≤ lengt
 unfolding run
 run-short p [] = omega arith
 run-short p (x ∷ s) = let h = run-short p s in either (λ r. length r ≤ length (x ∷ s)) (p x) {x = x ∷ run p s} {y = []} (omega arith) (omega arith)
+
+-- a run is as many bytes of the text as it is long
+pub run-take : (p : ℕ → Bool) (s : List ℕ) → run p s ≡ take (length (run p s)) s
+unfolding run
+run-take p [] = refl
+run-take p (x ∷ s) = either (λ r. r ≡ take (length r) (x ∷ s)) (p x) {x = x ∷ run p s} {y = []} (ap (λ l. x ∷ l) (run-take p s)) refl
 
 -- n: the bytes of the comment before s
 comment-in : (n d i m : ℕ) (s : List ℕ) → n + length s ≤ m → Within i m (commentPiece (comment n d s))
@@ -84,29 +95,44 @@ piece-in x s i =
     (either P (isDigit x) (integer-in (integer (run inInteger (x ∷ s))) _ i _ (run-short inInteger (x ∷ s)))
     (symbol-in x s i))))))
 
--- the end of the text
-end-in : (N i : ℕ) → i ≤ N → Fine N (Each (At N)) (ok (plain FINISH i ∷ []))
-unfolding plain
-end-in N i h = fOk (eCons h eNil)
+-- a piece whose token has a property, if it is a token
+pub data On (Q : Token → Type 0) : Piece → Type 0 where
+  oGap : {n : ℕ} → On Q (gap n)
+  oTok : {t : Token} {n : ℕ} → Q t → On Q (tok t n)
+  oBad : {e : ℕ} → On Q (bad e)
 
-put-in : {N : ℕ} (t : Token) {r : Res (List Token)} → At N t → Fine N (Each (At N)) r → Fine N (Each (At N)) (put t r)
-unfolding put
-put-in t h (fOk k) = fOk (eCons h k)
-put-in t h (fRefuse n p k) = fRefuse n p k
+-- All tokens of a text have a property, if the end has it and every piece; and refusals have their place in the text
+module _ (text : List ℕ) (Q : Token → Type 0) (end : (i : ℕ) → i ≤ length text → Q (plain FINISH i)) (each : (x : ℕ) (s : List ℕ) (i : ℕ) → drop i text ≡ x ∷ s → i ≤ length text → On Q (piece x (x ∷ s) i)) where
+  put-each : (t : Token) {r : Res (List Token)} → Q t → Fine (length text) (Each Q) r → Fine (length text) (Each Q) (put t r)
+  unfolding put
+  put-each t h (fOk k) = fOk (eCons h k)
+  put-each t h (fRefuse n p k) = fRefuse n p k
 
-follow-in : {N i m : ℕ} {q : Piece} (k : ℕ → Res (List Token)) → Within i m q → i ≤ N → ((n : ℕ) → n ≤ m → Fine N (Each (At N)) (k n)) → Fine N (Each (At N)) (follow k q i)
-unfolding follow
-follow-in k (wGap {n} l) h r = r n l
-follow-in k (wTok {t} n e l) h r = put-in t (omega arith) (r n l)
-follow-in {i} k (wBad e l) h r = fRefuse e i (omega arith)
+  follow-each : {i m : ℕ} {q : Piece} (k : ℕ → Res (List Token)) → Within i m q → On Q q → i ≤ length text → ((n : ℕ) → n ≤ m → Fine (length text) (Each Q) (k n)) → Fine (length text) (Each Q) (follow k q i)
+  unfolding follow
+  follow-each k (wGap {n} l) o h r = r n l
+  follow-each k (wTok {t} n e l) (oTok o) h r = put-each t o (r n l)
+  follow-each {i} k (wBad e l) o h r = fRefuse e i (omega arith)
 
--- N: the bytes of the whole text
-at-in : (N f i : ℕ) (s : List ℕ) → i + length s ≤ N → Fine N (Each (At N)) (tokensAt f i s)
-unfolding tokensAt
-at-in N zero i s h = end-in N i (omega arith)
-at-in N (suc f) i [] h = end-in N i (omega arith)
-at-in N (suc f) i (x ∷ s) h = follow-in _ (piece-in x s i) (omega arith) (λ n l. at-in N f (i + n) (drop n (x ∷ s)) (simp length-drop (omega arith)))
+  -- s: the text from i on
+  at-each : (f i : ℕ) (s : List ℕ) → drop i text ≡ s → i ≤ length text → Fine (length text) (Each Q) (tokensAt f i s)
+  unfolding tokensAt
+  at-each zero i s e h = fOk (eCons (end i h) eNil)
+  at-each (suc f) i [] e h = fOk (eCons (end i h) eNil)
+  at-each (suc f) i (x ∷ s) e h =
+      let long : length (x ∷ s) ≡ length text - i = rw e at (length-drop i text) in
+      follow-each _ (piece-in x s i) (each x s i e h) h (λ n l. at-each f (i + n) (drop n (x ∷ s)) (sym (drop-drop n i text) ∙ ap (drop n) e) (omega arith))
+
+  pub tokens-each : Fine (length text) (Each Q) (tokens text)
+  unfolding tokens
+  tokens-each = at-each (suc (length text)) 0 text refl (omega arith)
+
+-- the place of a piece is that of its token
+near : {N i m : ℕ} {q : Piece} → Within i m q → i ≤ N → On (At N) q
+near (wGap l) h = oGap
+near (wTok {t} n e l) h = oTok {t = t} (omega arith)
+near (wBad e l) h = oBad
 
 pub tokens-in : (text : List ℕ) → Fine (length text) (Each (At (length text))) (tokens text)
-unfolding tokens
-tokens-in text = at-in (length text) (suc (length text)) 0 text (omega arith)
+unfolding plain
+tokens-in text = tokens-each text _ (λ i h. h) (λ x s i e h. near (piece-in x s i) h)

@@ -1,0 +1,4 @@
+pub mod Compounds
+pub mod Items
+pub mod Places
+pub mod Sizes

@@ -1,0 +1,12 @@
+pub mod Integers
+pub mod Heads
+pub mod Moving
+pub mod Skipping
+pub mod Closings
+pub mod Literals
+pub mod Tags
+pub mod Whole
+pub mod Following
+pub mod Loops
+pub mod EachKind
+pub mod Stated

@@ -1,0 +1,4 @@
+pub mod Capitals
+pub mod Letters
+pub mod Rows
+pub mod Stores

@@ -1,0 +1,10 @@
+pub mod Steps
+pub mod Operands
+pub mod Constants
+pub mod Items
+pub mod Walking
+pub mod Promises
+pub mod LabelPromises
+pub mod Stacking
+pub mod Declaring
+pub mod Cleared
