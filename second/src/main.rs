@@ -1,7 +1,7 @@
 //! The command `second`: the line protocol, the desk's line, or requests to compare programs with.
 
 use second::compile::desk_line;
-use second::generate::{edges, parse_requests, random::Random, request};
+use second::generate::{edges, parse_requests, random::Random, request, sweep_requests};
 use second::protocol::answer;
 use std::io::{self, BufRead, BufReader, BufWriter, Read, Write};
 use std::process::ExitCode;
@@ -51,12 +51,18 @@ fn texts(seed: u64, count: u64) -> io::Result<()> {
     write_all(&parse_requests(&mut Random::new(seed), count))
 }
 
+/// Writes texts to compile, and to evaluate at many budgets.
+fn sweeps(seed: u64, count: u64) -> io::Result<()> {
+    write_all(&sweep_requests(&mut Random::new(seed), count))
+}
+
 fn command(arguments: &[&str]) -> Option<io::Result<()>> {
     match arguments {
         [] | ["lines"] => Some(lines()),
         ["desk"] => Some(desk()),
         ["edges"] => Some(write_all(&edges::requests())),
         ["requests", seed, count] => Some(requests(seed.parse().ok()?, count.parse().ok()?)),
+        ["sweeps", seed, count] => Some(sweeps(seed.parse().ok()?, count.parse().ok()?)),
         ["texts", seed, count] => Some(texts(seed.parse().ok()?, count.parse().ok()?)),
         _ => None,
     }
@@ -73,7 +79,7 @@ fn main() -> ExitCode {
         }
         None => {
             eprintln!(
-                "usage: second [lines | desk | edges | requests SEED COUNT | texts SEED COUNT]"
+                "usage: second [lines | desk | edges | requests SEED COUNT | sweeps SEED COUNT | texts SEED COUNT]"
             );
             ExitCode::FAILURE
         }

@@ -12,7 +12,7 @@ use Rattle.cells.specs.Laws.{cell-lies, behind-cell, behind-moves, tag-moves}
 use Rattle.cells.specs.declared.Cell.{Cell}
 use Rattle.emit.specs.Places.{Put, Wrote}
 use Rattle.emit.specs.declared.expressions.Place.{Place}
-use Rattle.emit.proofs.Stores.{sets-append}
+use Rattle.writing.proofs.Buffers.{sets-append}
 use Rattle.emit.proofs.Writing.{wrote-put, wrote-then}
 
 -- bytes put behind bytes: no cell is read

@@ -8,7 +8,7 @@ use lib.ListN.{length}
 use lib.Seq.{sets}
 use borrow.Author.Tests.{le-leb, lt-leb}
 use Rattle.rules.specs.Base.{pick}
-use Rattle.image.specs.Parts.{fits, putAt}
+use Rattle.writing.specs.Puts.{fits, putAt}
 use Rattle.emit.specs.Places.{mayPut, codePut, behindPut}
 use Rattle.emit.proofs.CodeBytes.{Writes}
 

@@ -13,10 +13,10 @@ use Rattle.rules.specs.Base.{pick}
 use Rattle.rules.specs.Cells.{cell}
 use Rattle.cells.specs.Reading.{behind, Lies}
 use Rattle.cells.specs.Laws.{lies-first, lies-rest, behind-cell}
-use Rattle.image.specs.Parts.{fits}
+use Rattle.writing.specs.Puts.{fits}
 use Rattle.emit.specs.Places.{mayPut, codePut, behindPut, Put, Wrote}
 use Rattle.emit.specs.declared.expressions.Place.{Place}
-use Rattle.emit.proofs.Stores.{sets-append}
+use Rattle.writing.proofs.Buffers.{sets-append}
 
 -- the bytes of an instruction are put where there is room
 may-put : (code bytes : List ℕ) (at : ℕ) → length bytes ≤ 16 → at + length bytes ≤ 8192 → at + length bytes ≤ length code → mayPut code at bytes ≡ true

@@ -15,7 +15,7 @@ use Rattle.rules.specs.CoreCells.{heldCells, spanCells, stmtCells, bodyCells, b
 use Rattle.theorems.specs.Fields.{FitE, FitLb, FitS, FitL, FitB, FitG}
 use Rattle.theorems.specs.Levels.{forsS, forsL, forsB, forsG, nestS, nestL, nestB, nestG}
 use Rattle.cells.specs.Reading.{Lies}
-use Rattle.image.specs.Parts.{fits, putAt}
+use Rattle.writing.specs.Puts.{fits, putAt}
 use Rattle.cells.specs.declared.Cell.{Cell}
 use Rattle.emit.specs.declared.expressions.Place.{Place}
 use Rattle.emit.specs.declared.statements.Around.{Around}

@@ -15,7 +15,7 @@ fn put(code: &mut [u8], at: u32, bytes: &[u8]) -> u32
     if 16 < bytes.len() {
         return at;
     }
-    if image::put(code, at as usize, bytes) {
+    if writing::put(code, at as usize, bytes) {
         return at + (bytes.len() as u32);
     }
     at

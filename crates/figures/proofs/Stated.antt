@@ -25,11 +25,11 @@ use Rattle.ticks.specs.Bounds.{boundOf, cut}
 use Rattle.ticks.specs.Laws.{figure-cut}
 use Rattle.cells.specs.Reading.{Lies, Moves}
 use Rattle.cells.specs.Laws.{lies-first, lies-rest}
-use Rattle.figures.specs.Parts.{shown, VariablesMean, ListMeans}
+use Rattle.figures.specs.Parts.{shown, VariablesMean, ListMeans, ProgramFits}
 use Rattle.figures.specs.declared.sums.Figures.{Figures}
 
 -- what is stored lies there
-stored : (l : List ℕ) (i : ℕ) (xs : List ℕ) → i + length xs ≤ length l → Lies (sets l i xs) i xs
+pub stored : (l : List ℕ) (i : ℕ) (xs : List ℕ) → i + length xs ≤ length l → Lies (sets l i xs) i xs
 stored l i xs h = record {
   rest = drop (i + length xs) l;
   lie = ap (drop i) (sets-eq xs l i h ∙ append-assoc (take i l) xs (drop (i + length xs) l)) ∙ drop-at (take i l) (xs ++ drop (i + length xs) l) i (length-take-le i l (omega arith));
@@ -41,7 +41,7 @@ pub record Passed (lent : ℕ) (text : List ℕ) (p : Program) : Type 0 where
   pub long : memoryNumbers ≤ lent
   pub fronted : front text ≡ ok p
 
-passed : (lent : ℕ) (text : List ℕ) (p : Program) → programFor lent text ≡ ok p → Passed lent text p
+pub passed : (lent : ℕ) (text : List ℕ) (p : Program) → programFor lent text ≡ ok p → Passed lent text p
 unfolding programFor
 passed lent text p e =
     let a = inv (need _ 17 0) _ e in
@@ -49,7 +49,7 @@ passed lent text p e =
     record { long = leb-true memoryNumbers lent (needed _ 17 0 (a .0) (a .1)); fronted = b .2 }
 
 -- a refusal of the walk is the refusal here
-refusal-states : (n q : ℕ) (R : Res Program) (lent m : List ℕ) → left (StageRefused n q) m ≡ programLeft R lent → Refused n q ≡ figured R
+refusal-states : (n q : ℕ) (R : Res Program) (lent m : List ℕ) → left (StageRefused n q) m ≡ programLeft R lent → (Refused n q ≡ figured R) × ProgramFits R
 unfolding programLeft refusedLent
 refusal-states n q (ok p) lent m e =
     let answers : refuse n q ≡ ok (length (programCells p)) = ap (λ (x : Lent). x .answer) e in
@@ -59,14 +59,15 @@ refusal-states n q (refuse o r) lent m e =
     let answers : refuse n q ≡ refuse o r = ap (λ (x : Lent). x .answer) e in
     let a : n ≡ o = cc in
     let b : q ≡ r = cc in
-    rw (a, b)
+    (rw (a, b), tt)
 
 pub refused-states : (text lent m : List ℕ) (stage : Stage) (n q : ℕ) → stage ≡ StageRefused n q → (left stage m ≡ walked text lent) × TreeFits stage
-    → (Refused n q ≡ figured (programFor (length lent) text)) × (m ≡ walked text lent .memory)
+    → (Refused n q ≡ figured (programFor (length lent) text)) × ((m ≡ walked text lent .memory) × ProgramFits (programFor (length lent) text))
 unfolding walked
 refused-states text lent m stage n q known did =
     let e : left (StageRefused n q) m ≡ walked text lent = rw known at (did .0) in
-    (refusal-states n q (programFor (length lent) text) lent m e, ap (λ (x : Lent). x .memory) e)
+    let did = refusal-states n q (programFor (length lent) text) lent m e in
+    (did .0, (ap (λ (x : Lent). x .memory) e, did .1))
 
 module _ (text lent m : List ℕ) (count at worst : ℕ) (f : Figures) (few : count ≤ treeNumbers) (vars : VariablesMean m at) (list : ListMeans m at nestingLimit f) (told : worst ≡ figure (boundOf (f .worst))) where
   -- the program's cells lie where the walk left them
@@ -91,11 +92,12 @@ module _ (text lent m : List ℕ) (count at worst : ℕ) (f : Figures) (few : co
         let w : f .worst ≡ cut (worstL (p .body)) = ap (λ (g : Figures). g .worst) read in
         rw (told, d, w, figure-cut (worstL (p .body)))
 
-  by-answer : (R : Res Program) → programFor (length lent) text ≡ R → left (Left count) m ≡ programLeft R lent → Stating (f .depth) worst ≡ figured R
+  by-answer : (R : Res Program) → programFor (length lent) text ≡ R → left (Left count) m ≡ programLeft R lent → (Stating (f .depth) worst ≡ figured R) × ProgramFits R
   unfolding programLeft refusedLent
   by-answer (ok p) h e =
       let answers : ok count ≡ ok (length (programCells p)) = ap (λ (x : Lent). x .answer) e in
-      stated p h (ap (λ (x : Lent). x .memory) e) cc
+      let counted : count ≡ length (programCells p) = cc in
+      (stated p h (ap (λ (x : Lent). x .memory) e) counted, omega arith)
   by-answer (refuse n q) h e =
       let answers : ok count ≡ refuse n q = ap (λ (x : Lent). x .answer) e in
       let z : _≡_ {A = ℕ} 0 1 = cc in
@@ -104,9 +106,10 @@ module _ (text lent m : List ℕ) (count at worst : ℕ) (f : Figures) (few : co
 -- a program that the walk leaves is stated with its figures
 pub left-states : (text lent m : List ℕ) (stage : Stage) (count at worst : ℕ) (f : Figures) → stage ≡ Left count → (left stage m ≡ walked text lent) × TreeFits stage → VariablesMean m at
     → Moves m at (f .at) × ListMeans m at nestingLimit f → worst ≡ figure (boundOf (f .worst))
-    → (Stating (f .depth) worst ≡ figured (programFor (length lent) text)) × (m ≡ walked text lent .memory)
+    → (Stating (f .depth) worst ≡ figured (programFor (length lent) text)) × ((m ≡ walked text lent .memory) × ProgramFits (programFor (length lent) text))
 unfolding walked
 left-states text lent m stage count at worst f known did vars list told =
     let e : left (Left count) m ≡ walked text lent = rw known at (did .0) in
     let few : TreeFits (Left count) = rw known at (did .1) in
-    (by-answer text lent m count at worst f few vars (list .1) told (programFor (length lent) text) refl e, ap (λ (x : Lent). x .memory) e)
+    let does = by-answer text lent m count at worst f few vars (list .1) told (programFor (length lent) text) refl e in
+    (does .0, (ap (λ (x : Lent). x .memory) e, does .1))

@@ -6,15 +6,15 @@ use Prim.Native.Nat.{ℕ, suc, _+_, _-_, _≤_, _<_}
 use lib.Dec.{eqb}
 use lib.IntN.{ℤ, pos, negℤ}
 use lib.ListN.{length}
-use Rattle.rules.specs.Base.{pick}
+use Rattle.rules.specs.Base.{pick, Res, ok, refuse}
 use Rattle.rules.specs.Bytes.{toU, ofU}
 use Rattle.rules.specs.Kinds.{NAME, INT, TRUE, FALSE, OPEN, COMMA, COLON}
-use Rattle.rules.specs.Limits.{tokenNumbers}
-use Rattle.rules.specs.Core.{Expr, Labels, Stmt, List, Brs, Grps, Variable, assign, if, case, for, while, repeat, exit}
+use Rattle.rules.specs.Limits.{tokenNumbers, treeNumbers}
+use Rattle.rules.specs.Core.{Expr, Labels, Stmt, List, Brs, Grps, Variable, Program, assign, if, case, for, while, repeat, exit}
 use Rattle.rules.specs.Depth.{height, depthS, depthL, depthB, depthG}
 use Rattle.rules.specs.Worst.{Bound, Lit, lit, nolit, litOf, forW, worstS, worstL, worstB, worstG}
 use Rattle.rules.specs.Cells.{UNARY, BINARY}
-use Rattle.rules.specs.CoreCells.{heldCells, spanCells, stmtCells, bodyCells, brsCells, grpsCells, variableCells}
+use Rattle.rules.specs.CoreCells.{heldCells, spanCells, stmtCells, bodyCells, brsCells, grpsCells, variableCells, programCells}
 use Rattle.theorems.specs.Fields.{FitE, FitS, FitL, FitB, FitG}
 use Rattle.theorems.specs.Levels.{nestS, nestL, nestB, nestG}
 use Rattle.ticks.specs.Bounds.{boundOf, cut}
@@ -72,6 +72,12 @@ BranchesMean m at levels r = (x : Brs) → Lies m at (brsCells x) → nestB x �
 
 abbrev pub GroupsMean : L.List ℕ → ℕ → ℕ → Figures → Type 0
 GroupsMean m at levels r = (x : Grps) → Lies m at (grpsCells x) → nestG x ≤ levels → FitG x → r ≡ shown (at + length (grpsCells x)) (depthG x) (worstG x)
+
+-- The core program lies in the numbers that are published for the tree
+
+abbrev pub ProgramFits : Res Program → Type 0
+ProgramFits (ok p) = length (programCells p) ≤ treeNumbers
+ProgramFits (refuse number place) = Unit {0}
 
 -- Variables
 

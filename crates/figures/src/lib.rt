@@ -7,7 +7,7 @@ ghost use mathlib.Core.Path.{_≡_};
 ghost use lib.ListN.{length};
 ghost use Rattle.rules.specs.CoreCells.{programFor, walked};
 ghost use Rattle.rules.specs.Answers.{figured};
-ghost use Rattle.figures.specs.Parts.{VariablesMean};
+ghost use Rattle.figures.specs.Parts.{VariablesMean, ProgramFits};
 use cells::behind;
 use cells::tag_at;
 use rules::Figured;
@@ -30,6 +30,7 @@ fn past_variables(memory: &[u32]) -> usize
 pub fn figures(text: &[u8], memory: &mut [u32]) -> Figured
     ensures means { λ r. ⌜ r ≡ figured (programFor (length (now (memory .entry))) (now (text .entry))) ⌝ }
     ensures leaves { λ r. ⌜ now (memory .exit) ≡ walked (now (text .entry)) (now (memory .entry)) .memory ⌝ }
+    ensures fits { λ r. ⌜ ProgramFits (programFor (length (now (memory .entry))) (now (text .entry))) ⌝ }
 {
     let stage = walk::walk(text, memory);
     match stage {

@@ -9,8 +9,8 @@ use lib.Dec.{leb}
 use lib.ListN.{length, getD, take, drop}
 use borrow.Author.Tests.{leb-true, leb-false, le-leb, lt-leb}
 use Rattle.rules.specs.Bytes.{of2, Record, recordIn}
-use Rattle.image.specs.Parts.{isSome}
-use Rattle.image.proofs.Options.{clash}
+use Rattle.variables.specs.Slots.{isSome}
+use Rattle.variables.proofs.Options.{clash}
 
 -- how long the first record's payload is said to be
 abbrev pub size : List ℕ → ℕ

@@ -12,9 +12,10 @@ use Rattle.rules.specs.Limits.{variableLimit, codeLimit}
 use Rattle.rules.specs.Bytes.{Record, recordIn}
 use Rattle.rules.specs.Core.{Variable, types, initials}
 use Rattle.rules.specs.Image.{Loaded, variablesIn, onKind, loadedOf, imageIn}
-use Rattle.image.specs.Parts.{isSome, kindOf, payloadOf, restOf, variablesPart, codePart, typesIn, valuesIn}
-use Rattle.image.proofs.Options.{clash, both, chosen}
-use Rattle.image.proofs.Reading.{Read, read}
+use Rattle.variables.specs.Slots.{isSome, typesIn, valuesIn}
+use Rattle.variables.proofs.Options.{clash, both, chosen}
+use Rattle.variables.proofs.Reading.{Read, read}
+use Rattle.image.specs.Parts.{kindOf, payloadOf, restOf, variablesPart, codePart}
 
 -- ---- a record of a kind
 abbrev parts : Option Record → Record

@@ -4,7 +4,7 @@ use mathlib.Core.Bool.{Bool, true, false}
 use lib.IntN.{ℤ, _+ℤ_}
 use Rattle.rules.specs.Meaning.{passes}
 use Rattle.arith.specs.Exact.{pickV, advanceOf}
-use Rattle.image.proofs.Options.{clash}
+use Rattle.variables.proofs.Options.{clash}
 use Rattle.arith.specs.declared.Advance.the-variants.{Ends, Steps}
 
 pub ends-is : (v step last : ℤ) → advanceOf v step last ≡ Ends → passes step (v +ℤ step) last ≡ true

@@ -10,7 +10,7 @@ use borrow.Author.Tests.{ltb-true, lt-ltb}
 use Rattle.rules.specs.Limits.{forLimit}
 use Rattle.rules.specs.Numbers.{Ty, dint, isDint, isZero}
 use Rattle.rules.specs.Meaning.{Table, val, stop, ill, load, loadD}
-use Rattle.image.proofs.Options.{clash, both}
+use Rattle.variables.proofs.Options.{clash, both}
 use Rattle.machine.specs.Stepping.{mayCount}
 
 module _ (Γ : List Ty) (t : Table) (l v : ℕ) (d : ℤ) where

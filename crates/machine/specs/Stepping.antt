@@ -14,7 +14,7 @@ use Rattle.rules.specs.Meaning.{Table, Stop as End, done, spent, range, divide,
 use Rattle.rules.specs.Machine.{state, Step as Deed, on as goOn, tk, end, pushE, Code, jumpTo, push, act, step, codeIn}
 use Rattle.arith.specs.Exact.{evOf}
 use Rattle.arith.specs.declared.Answer.{Answer}
-use Rattle.image.specs.Parts.{typesIn}
+use Rattle.variables.specs.Slots.{typesIn}
 use Rattle.machine.specs.declared.Machine.{Machine}
 use Rattle.machine.specs.declared.Step.{Step}
 use Rattle.machine.specs.declared.Stop.{Stop}

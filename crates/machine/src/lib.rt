@@ -9,7 +9,7 @@ ghost use Rattle.rules.specs.Limits.{stackLimit, forLimit};
 ghost use Rattle.rules.specs.Machine.{isTick, codeIn};
 ghost use Rattle.rules.specs.Numbers.{isZero};
 ghost use Rattle.codes.specs.Table.{unOf, binOf, instrOf};
-ghost use Rattle.image.specs.Parts.{typesIn};
+ghost use Rattle.variables.specs.Slots.{typesIn};
 ghost use Rattle.machine.specs.Stepping.{view, move, only, over, holding, pushed, topOf, popped, halted, off, on, does, stepped, Does, DoesIn, DoesOn, Ticks, Stores, Turns, Puts, Goes, Answers, branchOf, taken, mayCount, fresh, Ready, Under};
 use arith::Advance;
 use arith::Answer;
@@ -185,7 +185,7 @@ impl Machine {
         if table.len() <= slot {
             return self.halt(Stop::Broken);
         }
-        if image::may_hold(vars, slot, v) {
+        if variables::may_hold(vars, slot, v) {
             table[slot] = v;
             return self.pop().advance(2);
         }
@@ -427,7 +427,7 @@ fn may_count(l: Loop, vars: &[u8], table: &[i32]) -> bool
     if table.len() <= slot {
         return false;
     }
-    if image::is_dint(vars, slot) {
+    if variables::is_dint(vars, slot) {
         return !arith::is_zero(by);
     }
     false

@@ -1,7 +1,7 @@
 -- What the answers of the code stand for: the numbers and values of the rules for each case.
 use mathlib.Core.List.{List}
 use Prim.Native.Nat.{ℕ, _*_, _≤_}
-use lib.ListN.{take}
+use lib.ListN.{length}
 use Rattle.rules.specs.Limits.{textLimit, variableLimit, stackLimit, forLimit, codeLimit, imageLimit, memoryNumbers, memoryBytes, tokenNumbers, treeNumbers, unboundedMark}
 use Rattle.rules.specs.Base.{Res, ok, refuse}
 use Rattle.rules.specs.Core.{Program}
@@ -27,10 +27,10 @@ use Rattle.rules.specs.declared.Filled.{Filled}
 use Rattle.rules.specs.declared.Filled.the-variants.{Done as FillDone, BadImage as FillBadImage, BadTable as FillBadTable}
 use Rattle.rules.specs.declared.Limits.{Limits}
 
--- compiling: the answer, with the image buffer as it is afterwards, whose first bytes are the image
-abbrev pub said : Compiled → List ℕ → Answer
-said (Accepted image code depth worst) buffer = accepted (take image buffer) code depth worst
-said (Refused number place) buffer = refused number place
+-- compiling: the answer but for the image's bytes, which come into the buffer
+abbrev pub compiledAs : Answer → Compiled
+compiledAs (accepted image code depth worst) = Accepted (length image) code depth worst
+compiledAs (refused number place) = Refused number place
 
 -- depth and worst case, or the refusal
 abbrev pub figured : Res Program → Figured

@@ -1,7 +1,7 @@
 -- Evaluating a text: what it means, from its bytes, a table and a budget, with no image and no machine.
 use mathlib.Core.List as L
 use Prim.Native.Nat.{ℕ, _-_}
-use Rattle.rules.specs.Base.{pick, Res, ok, _>>=_}
+use Rattle.rules.specs.Base.{pick, Res, ok, refuse, _>>=_}
 use Rattle.rules.specs.Core.{types, Program}
 use Rattle.rules.specs.Meaning.{Table, Ans, ans, meaning}
 use Rattle.rules.specs.Run.{Report, number, valid}
@@ -31,3 +31,8 @@ unfoldable pub evaluate : ℕ → ℕ → L.List ℕ → ℕ → Table → Res T
 evaluate lent capacity text budget t = do
   p ← compiled lent capacity text
   ok (evaluated p budget t)
+
+-- the table afterwards: a refusal leaves it alone
+unfoldable pub tableAfter : Res Told → Table → Table
+tableAfter (ok told) t = told .table
+tableAfter (refuse n p) t = t

@@ -65,7 +65,7 @@ unfolding Rattle.rules.specs.Compile.front Rattle.rules.specs.Co
 openedCompile = tt
 
 unfoldable pub openedEvaluate : Unit {0}
-unfolding Rattle.rules.specs.Evaluate.toldOf Rattle.rules.specs.Evaluate.toldBy Rattle.rules.specs.Evaluate.evaluated Rattle.rules.specs.Evaluate.evaluate
+unfolding Rattle.rules.specs.Evaluate.toldOf Rattle.rules.specs.Evaluate.toldBy Rattle.rules.specs.Evaluate.evaluated Rattle.rules.specs.Evaluate.evaluate Rattle.rules.specs.Evaluate.tableAfter
 openedEvaluate = tt
 
 unfoldable pub opened : Unit {0}

@@ -11,9 +11,10 @@ use Rattle.rules.specs.Meaning.{Table}
 use Rattle.rules.specs.Image.{Loaded, imageIn}
 use Rattle.rules.specs.Run.{Report, refusedRun, valid, runLoaded, runImage, Filling, fillLoaded, fillImage}
 use Rattle.theorems.specs.Promise.{types-length}
-use Rattle.image.specs.Parts.{isSome, variablesPart, codePart, typesIn, valuesIn}
-use Rattle.image.proofs.Options.{clash}
-use Rattle.image.proofs.Values.{vars-length}
+use Rattle.variables.specs.Slots.{isSome, typesIn, valuesIn}
+use Rattle.variables.proofs.Options.{clash}
+use Rattle.variables.proofs.Values.{vars-length}
+use Rattle.image.specs.Parts.{variablesPart, codePart}
 use Rattle.image.proofs.Whole.{loaded-types, loaded-values, loaded-code, code-short}
 use Rattle.run.specs.Standing.{carriedOut}
 use Rattle.run.proofs.Progress.{seen}

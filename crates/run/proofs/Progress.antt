@@ -16,8 +16,8 @@ use Rattle.rules.specs.Run.{Report, number, reportOf}
 use Rattle.theorems.specs.Running.{pcOf, run-on, run-tick, run-spent, run-end}
 use Rattle.theorems.specs.StackLimit.{left-over, falls, falls-tick}
 use Rattle.theorems.specs.Height.{keeps}
-use Rattle.image.specs.Parts.{typesIn}
-use Rattle.image.proofs.Options.{clash}
+use Rattle.variables.specs.Slots.{typesIn}
+use Rattle.variables.proofs.Options.{clash}
 use Rattle.machine.specs.Stepping.{View, After, only, on, halted, ticked, after, fresh}
 use Rattle.machine.specs.declared.Stop.{Stop}
 use Rattle.machine.specs.declared.Stop.the-variants.{Going, Done, Spent, Range, Divide, Broken}

@@ -6,7 +6,7 @@ ghost use Rattle.rules.specs.Answers.{outcomeNumber, reported, filled};
 ghost use Rattle.rules.specs.Limits.{codeLimit, stackLimit};
 ghost use Rattle.rules.specs.Machine.{codeIn};
 ghost use Rattle.rules.specs.Run.{number, valid, runImage, fillImage};
-ghost use Rattle.image.specs.Parts.{typesIn, valuesIn};
+ghost use Rattle.variables.specs.Slots.{typesIn, valuesIn};
 ghost use Rattle.run.specs.Standing.{goesOn, endOf, lastCount, carriedOut, Refused};
 use machine::Machine;
 use machine::Stop;
@@ -85,11 +85,11 @@ fn is_valid(vars: &[u8], table: &[i32]) -> bool
     ensures { λ r. ⌜ r ≡ valid (typesIn (now (vars .entry))) (now (table .entry)) ⌝ }
 {
     let mut k = 0;
-    if table.len() != image::count(vars) {
+    if table.len() != variables::count(vars) {
         return false;
     }
     while k < table.len() {
-        if !image::may_hold(vars, k, table[k]) {
+        if !variables::may_hold(vars, k, table[k]) {
             return false;
         }
         k += 1;
@@ -129,7 +129,7 @@ fn put_initials(vars: &[u8], table: &mut [i32])
 {
     let mut k = 0;
     while k < table.len() {
-        table[k] = image::initial(vars, k);
+        table[k] = variables::initial(vars, k);
         k += 1;
     }
 }
@@ -142,7 +142,7 @@ pub fn fill(image: &[u8], table: &mut [i32]) -> Filled
         return Filled::BadImage;
     }
     let vars = image::variables(image);
-    if table.len() != image::count(vars) {
+    if table.len() != variables::count(vars) {
         return Filled::BadTable;
     }
     put_initials(vars, table);

@@ -2,6 +2,7 @@
 // buffer, and gives how many wait then.
 use libc::STDOUT_FILENO;
 use rules::Filled;
+use rules::Outcome;
 use rules::Report;
 
 pub(crate) const ROOM: usize = 32768;
@@ -106,6 +107,19 @@ pub(crate) fn put_report(out: &mut Buffer, waiting: usize, report: Report, table
     put_table(out, now, table)
 }
 
+// What evaluating a text tells, and the table that it left.
+pub(crate) fn put_told(
+    out: &mut Buffer,
+    waiting: usize,
+    outcome: Outcome,
+    ticks: u32,
+    table: &[i32],
+) -> usize {
+    let mut now = put_field(out, waiting, outcome.number() as u64);
+    now = put_field(out, now, ticks as u64);
+    put_table(out, now, table)
+}
+
 // What filling answers, and the table if it was filled.
 pub(crate) fn put_filled(out: &mut Buffer, waiting: usize, filled: Filled, table: &[i32]) -> usize {
     let number = filled.number() as u64;
@@ -138,6 +152,46 @@ pub(crate) fn put_tree(out: &mut Buffer, waiting: usize, numbers: &[u32]) -> usi
     let mut now = put_all(out, waiting, b"TREE ");
     now = put_number(out, now, numbers.len() as u64);
     now = put_numbers(out, now, numbers);
+    put(out, now, b'\n')
+}
+
+// The digit of a number below 16.
+fn digit(number: u8) -> u8 {
+    if number < 10 {
+        return b'0' + number;
+    }
+    b'a' + (number - 10) % 6
+}
+
+fn put_hex(out: &mut Buffer, waiting: usize, bytes: &[u8]) -> usize {
+    let mut now = waiting;
+    let mut i = 0;
+    while i < bytes.len() {
+        let high = put(out, now, digit(bytes[i] / 16));
+        now = put(out, high, digit(bytes[i] % 16));
+        i += 1;
+    }
+    now
+}
+
+// An accepted text's image, and the space behind it.
+pub(crate) fn put_image(out: &mut Buffer, waiting: usize, image: &[u8]) -> usize {
+    let mut now = put_all(out, waiting, b"ACCEPTED ");
+    now = put_hex(out, now, image);
+    put(out, now, b' ')
+}
+
+// The bytes of its code, the depth and the worst case.
+pub(crate) fn put_figures(
+    out: &mut Buffer,
+    waiting: usize,
+    code: usize,
+    depth: u32,
+    worst: u32,
+) -> usize {
+    let mut now = put_field(out, waiting, code as u64);
+    now = put_field(out, now, depth as u64);
+    now = put_number(out, now, worst as u64);
     put(out, now, b'\n')
 }
 

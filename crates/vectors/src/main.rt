@@ -1,7 +1,8 @@
-// Answers requests of the second program's line protocol that run an image, fill a table or parse a text, one line for each, until input ends.
+// Answers requests of the second program's line protocol that compile, run, evaluate, fill or parse, one line for each, until input ends.
 mod answers;
 mod fields;
 mod requests;
+mod texts;
 mod trees;
 
 use answers::Buffer;

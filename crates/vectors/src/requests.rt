@@ -3,7 +3,9 @@ use crate::answers;
 use crate::answers::Buffer;
 use crate::fields;
 use crate::fields::Read;
+use crate::texts;
 use crate::trees;
+use rules::Limits;
 
 // The longest image or text, and the longest table, that a request may have: more than the longest that is good.
 const BYTES: usize = 17000;
@@ -41,6 +43,46 @@ fn answer_fill(image: &[u8], line: &[u8], out: &mut Buffer, waiting: usize) -> u
     fill_from(image, &mut table[..entries], out, waiting)
 }
 
+// C TEXT CAPACITY
+fn answer_compile(text: &[u8], line: &[u8], out: &mut Buffer, waiting: usize) -> usize {
+    let Read::Number(capacity) = fields::read_number(fields::field(line, 2), 4294967295) else {
+        return answers::put_error(out, waiting);
+    };
+    texts::compile(text, capacity, out, waiting)
+}
+
+// E TEXT BUDGET TABLE
+fn answer_evaluate(text: &[u8], line: &[u8], out: &mut Buffer, waiting: usize) -> usize {
+    let mut table = [0i32; TABLE];
+    let Read::Number(budget) = fields::read_number(fields::field(line, 2), 4294967295) else {
+        return answers::put_error(out, waiting);
+    };
+    let Read::Number(entries) = fields::read_table(fields::field(line, 3), &mut table) else {
+        return answers::put_error(out, waiting);
+    };
+    texts::evaluate(text, &mut table[..entries], budget as u32, out, waiting)
+}
+
+// The requests on a text.
+fn answer_text(n: usize, text: &[u8], line: &[u8], out: &mut Buffer, waiting: usize) -> usize {
+    let letter = fields::field(line, 0);
+    // C TEXT
+    if n == 2 && fields::is_byte(letter, b'C') {
+        return texts::compile(text, Limits::IMAGE, out, waiting);
+    }
+    if n == 3 && fields::is_byte(letter, b'C') {
+        return answer_compile(text, line, out, waiting);
+    }
+    if n == 4 && fields::is_byte(letter, b'E') {
+        return answer_evaluate(text, line, out, waiting);
+    }
+    // P TEXT
+    if n == 2 && fields::is_byte(letter, b'P') {
+        return trees::answer(text, out, waiting);
+    }
+    answers::put_error(out, waiting)
+}
+
 fn answer_on(bytes: &[u8], line: &[u8], out: &mut Buffer, waiting: usize) -> usize {
     let n = fields::fields_in(line);
     let letter = fields::field(line, 0);
@@ -50,11 +92,7 @@ fn answer_on(bytes: &[u8], line: &[u8], out: &mut Buffer, waiting: usize) -> usi
     if n == 3 && fields::is_byte(letter, b'F') {
         return answer_fill(bytes, line, out, waiting);
     }
-    // P TEXT
-    if n == 2 && fields::is_byte(letter, b'P') {
-        return trees::answer(bytes, out, waiting);
-    }
-    answers::put_error(out, waiting)
+    answer_text(n, bytes, line, out, waiting)
 }
 
 // Every request has its image or its text first.

@@ -14,7 +14,8 @@ use Rattle.rules.specs.Cells.{cell, WHOLE, wholeCells}
 use Rattle.rules.specs.CoreCells.{exprCells}
 use Rattle.theorems.specs.TokenPlaces.{Each, eCons}
 use Rattle.walk.specs.Steps.{stackStart, cellAt, tagAt, skipped, left}
-use Rattle.walk.specs.Items.{Item, items, itemCell, itemCells, Operand, operand, Stacked, stacked, itemDoes, itemsDo, isItem}
+use Rattle.walk.specs.Items.{Item, items, itemCell, itemCells, Operand, operand, Stacked, stacked, itemDoes, itemsDo}
+use Rattle.cells.specs.Reading.{isItem}
 use Rattle.walk.specs.Walking.{Scope, Did, When}
 use Rattle.walk.specs.Promises.{scope, Spells, ExpressionMeans}
 use Rattle.walk.specs.Stacking.{Stack, bottom, ItemIn, Before, Behind, PartMeans}

@@ -15,7 +15,7 @@ use Rattle.rules.specs.Syntax.{Sign, minus, plus, inverse}
 use Rattle.rules.specs.Walk.{takes, signTy}
 use Rattle.rules.specs.Cells.{cell, typeKind, signCode, UNARY}
 use Rattle.walk.specs.Operands.{capped, raised, higher}
-use Rattle.walk.specs.Items.{isItem, signCell, takenKind, givenKind, signKind}
+use Rattle.walk.specs.Items.{signCell, takenKind, givenKind, signKind}
 use Rattle.walk.specs.Stacking.{signPlace}
 
 -- what holds of each of n numbers from a on
@@ -26,11 +26,6 @@ Through P a (suc n) = P a × Through P (suc a) n
 pub through : (P : ℕ → Type 0) (a n : ℕ) → Through P a n → (k : ℕ) → a ≤ k → k < a + n → P k
 through P a zero h k l u = absurd (omega arith)
 through P a (suc n) h k l u = ⊎-elim (λ e. rw e at (h .0)) (λ (b : a < k). through P (suc a) n (h .1) k b (omega arith)) (eq-or-lt-of-le l)
-
--- a kind that is none of an expression's cells
-pub no-item : (k : ℕ) → (k ≡ 1 → ⊥) → (k ≡ 2 → ⊥) → (k ≡ 30 → ⊥) → (k ≡ 19 → ⊥) → (k ≡ 43 → ⊥) → (k ≡ 53 → ⊥) → (k ≡ 54 → ⊥) → false ≡ isItem k
-unfolding isItem
-no-item k a b c d e f g = rw (ne-eqb k 1 a, ne-eqb k 2 b, ne-eqb k 30 c, ne-eqb k 19 d, ne-eqb k 43 e, ne-eqb k 53 f, ne-eqb k 54 g)
 
 -- an operator that is neither of equality nor of logic
 pub taken-else : (k left : ℕ) → (k ≡ 16 → ⊥) → (k ≡ 17 → ⊥) → (k ≡ 18 → ⊥) → (k ≡ 19 → ⊥) → (k ≡ 20 → ⊥) → DINT ≡ takenKind k left

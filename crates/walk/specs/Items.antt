@@ -92,10 +92,6 @@ module _ (vs : List Var) where
     x ← itemDoes i os
     itemsDo is (x .operands) (v ++ x .cell)
 
--- a cell of an expression, and not the one that closes it
-unfoldable pub isItem : ℕ → Bool
-isItem tag = eqb tag NAME || eqb tag INT || eqb tag TRUE || eqb tag FALSE || eqb tag OPEN || eqb tag UNARY || eqb tag BINARY
-
 -- types as kinds: what an operator of a code takes, if its left operand has this type, and what it gives; what a sign takes and gives
 unfoldable pub takenKind : ℕ → ℕ → ℕ
 takenKind code left = pick (eqb code 16 || eqb code 17) (λ _. left) (λ _. pick (eqb code 18 || eqb code 19 || eqb code 20) (λ _. BOOL) (λ _. DINT))

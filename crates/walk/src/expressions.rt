@@ -7,7 +7,7 @@ ghost use lib.Dec.{eqb};
 ghost use Rattle.rules.specs.Cells.{cell, WHOLE};
 ghost use Rattle.walk.specs.Steps.{Moves, extended, written};
 ghost use Rattle.walk.specs.Operands.{needed};
-ghost use Rattle.walk.specs.Items.{isItem, takenKind, givenKind, signKind};
+ghost use Rattle.walk.specs.Items.{takenKind, givenKind, signKind};
 ghost use Rattle.walk.specs.Promises.{ExpressionMeans, ValuedMeans, HeldMeans};
 ghost use Rattle.walk.specs.Stacking.{Stacks, VariableMeans, SignMeans, OperationMeans, PartMeans, signPlace, placedAt};
 use super::operands::before;
@@ -22,6 +22,7 @@ use super::steps::next;
 use super::steps::skip;
 use super::steps::tag;
 use super::steps::write;
+use cells::is_item;
 use rules::Kind;
 
 // Where the walk stands in an expression, with the top of the stack of operands.
@@ -64,22 +65,6 @@ fn sign_kind(code: u32) -> u32
     ensures { λ r. ⌜ r ≡ signKind code ⌝ }
 {
     if code == 6 { Kind::BOOL } else { Kind::DINT }
-}
-
-// Whether the cell is one of an expression, and not the one that closes it.
-fn is_part(tag: u32) -> bool
-    ensures { λ r. ⌜ r ≡ isItem tag ⌝ }
-{
-    match tag {
-        Kind::NAME
-        | Kind::INT
-        | Kind::TRUE
-        | Kind::FALSE
-        | Kind::OPEN
-        | Kind::UNARY
-        | Kind::BINARY => true,
-        _ => false,
-    }
 }
 
 // An operand is written and stacked.
@@ -200,7 +185,7 @@ fn expression(text: &[u8], memory: &mut [u32], count: u32, s: Step) -> Value
 {
     let mut step = s;
     let mut top = STACK;
-    while is_part(tag(memory, step)) {
+    while is_item(tag(memory, step)) {
         let p = part(text, memory, count, step, top);
         step = p.step;
         top = p.top;

@@ -243,6 +243,42 @@ pub fn request(random: &mut Random) -> String {
     }
 }
 
+/// An accepted text that is short.
+fn short_accepted_text(random: &mut Random) -> (Vec<u8>, Accepted) {
+    loop {
+        let (text, accepted) = accepted_text(random);
+        if text.len() <= SHORT_TEXT {
+            return (text, accepted);
+        }
+    }
+}
+
+/// The budgets of a sweep: all small ones, some larger, and those next to the worst case.
+fn swept_budgets(worst_case: u32) -> Vec<u32> {
+    let mut budgets: Vec<u32> = (0..=9).collect();
+    budgets.extend([13, 21, 34, 300]);
+    if worst_case <= SMALL_WORST_CASE {
+        let below = worst_case.saturating_sub(1);
+        budgets.extend([below, worst_case, worst_case + 1, u32::MAX]);
+    }
+    budgets
+}
+
+/// A text compiled, and evaluated on one table at many budgets; so many texts by chance.
+pub fn sweep_requests(random: &mut Random, count: u64) -> Vec<String> {
+    let mut requests = Vec::new();
+    for _ in 0..count {
+        let (text, accepted) = short_accepted_text(random);
+        let text = hex_field(&text);
+        let table = table_field(&valid_table(random, &accepted.program.variables));
+        requests.push(format!("C {text}"));
+        for budget in swept_budgets(accepted.worst_case) {
+            requests.push(format!("E {text} {budget} {table}"));
+        }
+    }
+    requests
+}
+
 /// Requests to parse: the edges, and so many by chance.
 pub fn parse_requests(random: &mut Random, count: u64) -> Vec<String> {
     let mut found = text_edges::all();

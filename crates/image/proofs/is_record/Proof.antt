@@ -3,7 +3,7 @@ use mathlib.Core.Path.{sym, ap}
 use native.Mathlib.Omega.{arith}
 use denote.Ref.{now}
 use borrow.Author.Needs.{needs}
-use Rattle.image.specs.Parts.{isSome}
+use Rattle.variables.specs.Slots.{isSome}
 use Rattle.image.proofs.Records.{cut, whole-is}
 use Rattle.image.proofs.is_record.Statement.{statement}
 use Rattle.image.proofs.is_record.Tie as tie

@@ -3,8 +3,8 @@ use mathlib.Core.Path.{sym, ap, _∙_}
 use native.Mathlib.Omega.{arith}
 use denote.Ref.{now}
 use borrow.Author.Needs.{needs}
+use Rattle.variables.proofs.Options.{nothing}
 use Rattle.image.specs.Parts.{kindOf}
-use Rattle.image.proofs.Options.{nothing}
 use Rattle.image.proofs.Records.{whole, long}
 use Rattle.image.proofs.kind.Statement.{statement}
 use Rattle.image.proofs.kind.Tie as tie

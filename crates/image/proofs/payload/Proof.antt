@@ -4,8 +4,8 @@ use Prim.Native.Nat.{_+_, _-_}
 use native.Mathlib.Omega.{arith}
 use denote.Ref.{now}
 use borrow.Author.Needs.{needs}
+use Rattle.variables.proofs.Options.{nothing}
 use Rattle.image.specs.Parts.{payloadOf}
-use Rattle.image.proofs.Options.{nothing}
 use Rattle.image.proofs.Records.{size, whole, long}
 use Rattle.image.proofs.payload.Statement.{statement}
 use Rattle.image.proofs.payload.Tie as tie

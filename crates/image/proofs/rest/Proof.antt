@@ -6,8 +6,8 @@ use lib.ListN.{length, drop, length-drop}
 use lib.Seq.{take-all, drop-drop}
 use denote.Ref.{now}
 use borrow.Author.Needs.{needs}
+use Rattle.variables.proofs.Options.{nothing}
 use Rattle.image.specs.Parts.{restOf}
-use Rattle.image.proofs.Options.{nothing}
 use Rattle.image.proofs.Records.{size, whole, long}
 use Rattle.image.proofs.rest.Statement.{statement}
 use Rattle.image.proofs.rest.Tie as tie

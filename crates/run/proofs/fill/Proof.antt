@@ -8,7 +8,8 @@ use denote.Ref.{now}
 use borrow.Author.Needs.{needs}
 use borrow.Author.Tests.{not-true, not-false}
 use Rattle.rules.specs.Image.{imageIn}
-use Rattle.image.specs.Parts.{typesIn, isSome, variablesPart}
+use Rattle.variables.specs.Slots.{typesIn, isSome}
+use Rattle.image.specs.Parts.{variablesPart}
 use Rattle.run.proofs.Images.{as-many, fill-none, fill-other, fill-done}
 use Rattle.run.proofs.fill.Statement.{statement}
 use Rattle.run.proofs.fill.Tie as tie

@@ -11,7 +11,7 @@ use borrow.Author.Needs.{needs, sfits-of}
 use borrow.Author.Tests.{not-true, not-false}
 use Rattle.rules.specs.Numbers.{dint, holds}
 use Rattle.rules.specs.Run.{allHold}
-use Rattle.image.specs.Parts.{typesIn}
+use Rattle.variables.specs.Slots.{typesIn}
 use Rattle.run.proofs.Tables.{valid-off, valid-is, hold-on, hold-off, hold-end}
 use Rattle.run.proofs.is_valid.Statement.{statement}
 use Rattle.run.proofs.is_valid.Tie as tie

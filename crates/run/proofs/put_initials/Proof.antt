@@ -9,7 +9,7 @@ use mir.Syntax.{w32}
 use mir.Val.{toZ, ofZ}
 use denote.Ref.{now}
 use borrow.Author.Needs.{needs}
-use Rattle.image.specs.Parts.{valuesIn}
+use Rattle.variables.specs.Slots.{valuesIn}
 use lib.Seq.{ext-getD}
 use Rattle.machine.proofs.Stack.{back}
 use Rattle.run.proofs.Tables.{entry-more}

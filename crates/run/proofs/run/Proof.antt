@@ -8,7 +8,8 @@ use borrow.Author.Needs.{needs}
 use borrow.Author.Tests.{not-true, not-false}
 use Rattle.rules.specs.Image.{imageIn}
 use Rattle.rules.specs.Run.{valid}
-use Rattle.image.specs.Parts.{typesIn, isSome, variablesPart}
+use Rattle.variables.specs.Slots.{typesIn, isSome}
+use Rattle.image.specs.Parts.{variablesPart}
 use Rattle.run.proofs.Images.{short, no-image, bad-table, all-good}
 use Rattle.run.proofs.run.Statement.{statement}
 use Rattle.run.proofs.run.Tie as tie

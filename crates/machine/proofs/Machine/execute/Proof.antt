@@ -8,7 +8,7 @@ use Rattle.rules.specs.Limits.{stackLimit}
 use Rattle.rules.specs.Codes.{Instr, CONST, lengthOf}
 use Rattle.rules.specs.Machine.{codeIn}
 use Rattle.codes.specs.Table.{instrOf}
-use Rattle.image.specs.Parts.{typesIn}
+use Rattle.variables.specs.Slots.{typesIn}
 use Rattle.machine.specs.Stepping.{After, view, only, does, Ready}
 use Rattle.machine.proofs.Moves.{halts, bad}
 use Rattle.codes.specs.declared.Instruction.{Instruction}

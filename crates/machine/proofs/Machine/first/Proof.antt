@@ -11,7 +11,7 @@ use borrow.Author.Needs.{needs}
 use borrow.Author.Tests.{not-true, not-false}
 use Rattle.rules.specs.Limits.{forLimit}
 use Rattle.rules.specs.Meaning.{passes}
-use Rattle.image.specs.Parts.{typesIn}
+use Rattle.variables.specs.Slots.{typesIn}
 use Rattle.machine.specs.Stepping.{view, only, mayCount}
 use Rattle.machine.proofs.Moves.{first-bad, first-go, first-on}
 use Rattle.machine.proofs.Counting.{Allowed, allowed}

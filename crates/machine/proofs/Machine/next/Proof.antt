@@ -11,7 +11,7 @@ use borrow.Author.Needs.{needs}
 use borrow.Author.Tests.{not-true, not-false}
 use Rattle.rules.specs.Limits.{forLimit}
 use Rattle.arith.specs.Exact.{advanceOf}
-use Rattle.image.specs.Parts.{typesIn}
+use Rattle.variables.specs.Slots.{typesIn}
 use Rattle.machine.specs.Stepping.{view, only, mayCount}
 use Rattle.machine.proofs.Moves.{go-on, go-out, next-bad, next-go, next-on}
 use Rattle.machine.proofs.Advances.{ends-is, steps-is}

@@ -3,7 +3,7 @@ use mathlib.Core.Path.{ap, _∙_}
 use native.Mathlib.Omega.{arith}
 use denote.Ref.{now}
 use borrow.Author.Needs.{needs}
-use Rattle.image.specs.Parts.{typesIn}
+use Rattle.variables.specs.Slots.{typesIn}
 use Rattle.machine.specs.Stepping.{only}
 use Rattle.machine.proofs.Moves.{step-high, step-out, step-is}
 use Rattle.codes.proofs.Table.{within}

@@ -4,7 +4,7 @@ use lib.ListN.{getD}
 use denote.Ref.{now}
 use borrow.Author.Needs.{needs}
 use Rattle.rules.specs.Numbers.{dint, holds}
-use Rattle.image.specs.Parts.{typesIn}
+use Rattle.variables.specs.Slots.{typesIn}
 use Rattle.machine.specs.Stepping.{view, only, topOf, on}
 use Rattle.machine.proofs.Stack.{back, deep, shallow, still}
 use Rattle.machine.proofs.Moves.{store-on, store-not, store-out, store-none}

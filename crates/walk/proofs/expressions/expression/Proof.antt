@@ -6,7 +6,7 @@ use native.Mathlib.Omega.{arith}
 use lib.ListN.{length}
 use borrow.Author.Needs.{needs}
 use Rattle.walk.specs.Steps.{tagAt, left}
-use Rattle.walk.specs.Items.{isItem}
+use Rattle.cells.specs.Reading.{isItem}
 use Rattle.walk.proofs.Moves.{moved-skip}
 use Rattle.walk.proofs.ExpressionLoop.{Turns, turns-start, turns-on, item-ahead, expression-means}
 use Rattle.walk.proofs.expressions.expression.Statement.{statement}
@@ -22,8 +22,8 @@ loop-holds : tie.Need-loop-holds Inv-loop μ-loop
 loop-holds c = (le-refl _, refl, turns-start _ _ _ _)
 
 -- the test at the loop's head is the rules'
-tested : (p : tie.After-is-part Inv-loop μ-loop) → p .is-part .result ≡ isItem (tagAt (p .before .before .before .loop .memory) (p .before .before .before .loop .step))
-tested p = p .is-part .ensures ∙ ap isItem (p .before .tag .ensures)
+tested : (p : tie.After-is-item Inv-loop μ-loop) → p .is-item .result ≡ isItem (tagAt (p .before .before .before .loop .memory) (p .before .before .before .loop .step))
+tested p = p .is-item .ensures ∙ ap isItem (p .before .tag .ensures)
 
 loop-less : tie.Need-loop-less Inv-loop μ-loop
 loop-less c =
