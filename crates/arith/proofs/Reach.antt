@@ -4,27 +4,21 @@ use mathlib.Core.Bool.{Bool, true, false, _&&_, cond}
 use Prim.Native.Nat.{ℕ, zero, suc, _+_, _-_, _*_, _/_, _≤_, _<_}
 use native.Mathlib.Nat.{mul-le-mul, le-trans, lt-of-le-of-lt, div-le-self}
 use native.Mathlib.Omega.{arith}
-use lib.Dec.{T, leb, ltb, lit<}
-use lib.IntN.{ℤ, pos, negsuc, negℤ, subℕ, natAbs, _+ℤ_, _-ℤ_, _*ℤ_}
-use lib.Signed.{nonNeg, mag, ltZ, leZ, quotZ, remZ, mag-rem}
-use borrow.Author.Tests.{ltb-true, ltb-false, leb-true, leb-false, le-leb, lt-leb, lt-ltb, le-ltb, ne-eqb}
+use lib.Dec.{leb, ltb, lit<}
+use lib.IntN.{ℤ, pos, negsuc, negℤ, subℕ, _+ℤ_, _-ℤ_, _*ℤ_}
+use lib.Signed.{mag, ltZ, leZ, quotZ, remZ, mag-rem}
+use borrow.Author.Tests.{ltb-true, ltb-false, le-leb, lt-leb, ne-eqb}
 use mir.Syntax.{w32, w64}
-use mir.Val.{SFits, Fits, toZ, ofZ}
-use mir.Facts.{sfits-widen, toZ-ofZ, toZ-pos}
+use mir.Val.{SFits, toZ, ofZ}
+use mir.Facts.{sfits-widen, toZ-ofZ}
 use Rattle.rules.specs.Core.{Div, Mod}
-use Rattle.rules.specs.Numbers.{dint, holds, between, low, high, isZero, eqZ}
-use Rattle.rules.specs.Meaning.{val, stop, range, divide, fit, binop, passes}
-use Rattle.arith.specs.Exact.{advanceOf}
-use Rattle.rules.specs.Bytes.{ofU, toU}
-use Rattle.arith.specs.declared.Advance.the-variants.{Ends, Steps}
+use Rattle.rules.specs.Numbers.{dint, holds, between, low, high, isZero}
+use Rattle.rules.specs.Meaning.{val, stop, range, divide, fit, binop}
 
 -- ---- the range
 and-true : (b : Bool) → b && true ≡ b
 and-true true = refl
 and-true false = refl
-
-never : {X : Type 0} → false ≡ true → X
-never e = let z : _≡_ {A = ℕ} 0 1 = cc in let y : ⊥ = omega arith in absurd y
 
 abbrev within : ℤ → Bool
 within z = leZ (negsuc 2147483647) z && leZ z (pos 2147483647)
@@ -67,7 +61,7 @@ pub inside-in : {z : ℤ} → SFits w64 z → ltZ (toZ w64 (ofZ w64 z)) (negsuc 
 inside-in {z} f h k = inside z (rw (toZ-ofZ f) at h) (rw (toZ-ofZ f) at k)
 
 -- ---- how far results reach
-mag-cond : (c : Bool) (x y : ℤ) (k : ℕ) → mag x ≤ k → mag y ≤ k → mag (cond c x y) ≤ k
+pub mag-cond : (c : Bool) (x y : ℤ) (k : ℕ) → mag x ≤ k → mag y ≤ k → mag (cond c x y) ≤ k
 mag-cond true x y k p q = p
 mag-cond false x y k p q = q
 
@@ -127,20 +121,9 @@ wide-back f e = rw (e, toZ-ofZ f) (toZ-ofZ {w = w64} (sfits-widen tt f))
 pub op-is : (op : ℤ → ℤ → ℤ) → ((a b : ℤ) → SFits w32 a → SFits w32 b → SFits w64 (op a b)) → {x y a b : ℤ} → SFits w32 a → SFits w32 b → x ≡ toZ w32 (ofZ w32 a) → y ≡ toZ w32 (ofZ w32 b) → toZ w64 (ofZ w64 (op (toZ w64 (ofZ w64 x)) (toZ w64 (ofZ w64 y)))) ≡ op a b
 op-is op reach p q e f = rw (wide-back p e, wide-back q f) (toZ-ofZ (reach _ _ p q))
 
--- ---- two's complement
-pub low-half : (n : ℕ) → n < 2147483648 → toZ w32 n ≡ ofU n
-unfolding ofU
-low-half n h = rw (lt-ltb n 2147483648 h, ofU)
-
-pub high-half : (n : ℕ) → 2147483648 ≤ n → Fits w32 n → toZ w64 n -ℤ pos 4294967296 ≡ negsuc (4294967295 - n)
-high-half n h f = rw (toZ-pos w64 {n = n} (omega arith), lt-ltb n 4294967296 (omega arith)) (ap negsuc (omega arith))
-
-pub high-is : (n : ℕ) → 2147483648 ≤ n → negsuc (4294967295 - n) ≡ ofU n
-unfolding ofU
-high-is n h = rw (le-ltb n 2147483648 h, ofU)
-
-pub high-fits : (n : ℕ) → 2147483648 ≤ n → Fits w32 n → SFits w32 (negsuc (4294967295 - n))
-high-fits n h f = record { sfits = omega arith }
+-- an operation reads its two numbers back from their bits
+pub two : {A : Type 0} (op : ℤ → ℤ → A) {x y : ℤ} → SFits w32 x → SFits w32 y → op (toZ w32 (ofZ w32 x)) (toZ w32 (ofZ w32 y)) ≡ op x y
+two op f g = rw (toZ-ofZ f, toZ-ofZ g)
 
 -- ---- division
 some-bits : (b : ℤ) → SFits w64 b → (b ≡ pos 0 → ⊥) → 0 < ofZ w64 b
@@ -177,81 +160,3 @@ by-zero-rem a b e = rw e
 -- a divisor that is not zero is not zero in 64 bits
 pub not-zero : {y b : ℤ} → SFits w32 y → SFits w32 b → y ≡ toZ w32 (ofZ w32 b) → (ofZ w32 b ≡ 0 → ⊥) → 0 < ofZ w64 y
 not-zero f g e h = some-bits _ (sfits-widen tt f) (λ n. h (ap (ofZ w32) (sym (e ∙ toZ-ofZ g) ∙ n)))
-
--- ---- a FOR's step
-pub up : (v step last : ℤ) → leZ (pos 0) step ≡ true → ltZ last v ≡ passes step v last
-unfolding passes
-up v (pos n) last h = refl
-up v (negsuc n) last h = never h
-
-pub down : (v step last : ℤ) → leZ (pos 0) step ≡ false → ltZ v last ≡ passes step v last
-unfolding passes
-down v (pos n) last h = never (sym h ∙ le-leb 0 n (omega arith))
-down v (negsuc n) last h = refl
-
--- a sum past the range passes any last value
-tight : (a b : ℕ) → a < 2147483648 → b < 2147483648 → mag (subℕ a (suc b)) ≤ 2147483647
-tight a b p q = mag-cond (ltb a (suc b)) (negsuc (suc b - suc a)) (pos (a - suc b)) 2147483647 (omega arith) (omega arith)
-
-beyond : (v step last : ℤ) → SFits w32 v → SFits w32 step → SFits w32 last → 2147483647 < mag (v +ℤ step) → passes step (v +ℤ step) last ≡ true
-unfolding passes
-beyond (pos a) (pos b) (pos c) p q r h = lt-ltb c (a + b) (omega arith)
-beyond (pos a) (pos b) (negsuc c) p q r h = refl
-beyond (negsuc a) (pos b) last p q r h = let y : ⊥ = omega (arith, tight b a (q .sfits) (p .sfits)) in absurd y
-beyond (pos a) (negsuc b) last p q r h = let y : ⊥ = omega (arith, tight a b (p .sfits) (q .sfits)) in absurd y
-beyond (negsuc a) (negsuc b) (pos c) p q r h = refl
-beyond (negsuc a) (negsuc b) (negsuc c) p q r h = lt-ltb c (suc (a + b)) (omega arith)
-
--- a sum that does not pass is in range
-pub inside-sum : (v step last : ℤ) → SFits w32 v → SFits w32 step → SFits w32 last → passes step (v +ℤ step) last ≡ false → mag (v +ℤ step) ≤ 2147483647
-inside-sum v step last p q r e = go (leb (mag (v +ℤ step)) 2147483647) refl
-  where
-    go : (t : Bool) → leb (mag (v +ℤ step)) 2147483647 ≡ t → mag (v +ℤ step) ≤ 2147483647
-    go true h = leb-true (mag (v +ℤ step)) 2147483647 h
-    go false h = never (sym e ∙ beyond v step last p q r (leb-false (mag (v +ℤ step)) 2147483647 h))
-
-pub ends : (v step last : ℤ) → passes step (v +ℤ step) last ≡ true → Ends ≡ advanceOf v step last
-unfolding advanceOf
-ends v step last h = rw h
-
-pub steps : (v step last : ℤ) → passes step (v +ℤ step) last ≡ false → Steps (v +ℤ step) ≡ advanceOf v step last
-unfolding advanceOf
-steps v step last h = rw h
-
--- an operation reads its two numbers back from their bits
-pub two : {A : Type 0} (op : ℤ → ℤ → A) {x y : ℤ} → SFits w32 x → SFits w32 y → op (toZ w32 (ofZ w32 x)) (toZ w32 (ofZ w32 y)) ≡ op x y
-two op f g = rw (toZ-ofZ f, toZ-ofZ g)
-
--- ---- zero
-pub same-zero : (x : ℤ) → eqZ x (pos 0) ≡ isZero x
-unfolding eqZ isZero
-same-zero (pos zero) = refl
-same-zero (pos (suc n)) = rw (lt-leb (suc n) 0 (omega arith), ne-eqb (suc n) 0 (λ e. omega arith)) refl
-same-zero (negsuc n) = refl
-
--- ---- the bits of a number
-pub plain : (x : ℤ) → SFits w32 x → leZ (pos 0) x ≡ true → T (nonNeg x) × Fits w32 (natAbs x)
-plain (pos n) f h = let m = f .sfits in (tt, record { fits = omega arith })
-plain (negsuc n) f h = never h
-
-pub plain-is : (x : ℤ) → leZ (pos 0) x ≡ true → natAbs x ≡ toU x
-unfolding toU
-plain-is (pos n) h = refl
-plain-is (negsuc n) h = never h
-
-pub lifted : (x : ℤ) → SFits w32 x → leZ (pos 0) x ≡ false → x +ℤ pos 4294967296 ≡ pos (toU x)
-unfolding toU
-lifted (pos n) f h = never (sym h ∙ le-leb 0 n (omega arith))
-lifted (negsuc n) f h = let m = f .sfits in rw (le-ltb 4294967296 (suc n) (omega arith)) (ap pos (omega arith))
-
-pub bits-fit : (x : ℤ) → SFits w32 x → Fits w32 (toU x)
-unfolding toU
-bits-fit (pos n) f = let m = f .sfits in record { fits = omega arith }
-bits-fit (negsuc n) f = record { fits = omega arith }
-
--- the sum that bits makes, as the machine has it
-pub lifted-is : {y x : ℤ} → SFits w32 x → leZ (pos 0) x ≡ false → y ≡ toZ w32 (ofZ w32 x) → toZ w64 (ofZ w64 y) +ℤ pos 4294967296 ≡ pos (toU x)
-lifted-is f h e = rw (wide-back f e) (lifted _ f h)
-
-pub passes-same : {s u v w l k : ℤ} → s ≡ u → v ≡ w → l ≡ k → passes s v l ≡ passes u w k
-passes-same p q r = rw (p, q, r)

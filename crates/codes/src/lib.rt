@@ -109,14 +109,14 @@ fn word(s: &[u8], at: usize) -> usize
     requires { ⌜ at + 2 ≤ length (now s) ⌝ }
     ensures { λ r. ⌜ (r ≡ wordAt (now (s .entry)) at) × (r < 65536) ⌝ }
 {
-    arith::word_of(s[at], s[at + 1])
+    octets::word_of(s[at], s[at + 1])
 }
 
 fn value(s: &[u8], at: usize) -> i32
     requires { ⌜ at + 4 ≤ length (now s) ⌝ }
     ensures { λ r. ⌜ r ≡ valueAt (now (s .entry)) at ⌝ }
 {
-    arith::value_of(s[at], s[at + 1], s[at + 2], s[at + 3])
+    octets::value_of(s[at], s[at + 1], s[at + 2], s[at + 3])
 }
 
 fn counted(s: &[u8], at: usize) -> Loop

@@ -50,7 +50,7 @@ pub(crate) fn jump(code: &mut [u8], at: u32, op: u8, target: u32) -> u32
 pub(crate) fn constant(code: &mut [u8], at: u32, bits: u32) -> u32
     ensures { λ r. ⌜ (r ≡ behindPut (now (code .entry)) at (2 ∷ put4 bits [])) × (now (code .exit) ≡ codePut (now (code .entry)) at (2 ∷ put4 bits [])) ⌝ }
 {
-    let v = arith::bytes_of_bits(bits);
+    let v = octets::bytes_of_bits(bits);
     put(code, at, &[2, v[0], v[1], v[2], v[3]])
 }
 
@@ -58,8 +58,8 @@ pub(crate) fn constant(code: &mut [u8], at: u32, bits: u32) -> u32
 pub(crate) fn span(code: &mut [u8], at: u32, low: u32, high: u32) -> u32
     ensures { λ r. ⌜ (r ≡ behindPut (now (code .entry)) at (23 ∷ put4 low (put4 high []))) × (now (code .exit) ≡ codePut (now (code .entry)) at (23 ∷ put4 low (put4 high []))) ⌝ }
 {
-    let l = arith::bytes_of_bits(low);
-    let h = arith::bytes_of_bits(high);
+    let l = octets::bytes_of_bits(low);
+    let h = octets::bytes_of_bits(high);
     put(
         code,
         at,
@@ -79,7 +79,7 @@ pub(crate) fn turn(
 ) -> u32
     ensures { λ r. ⌜ (r ≡ behindPut (now (code .entry)) at (op ∷ (level % 256) ∷ (slot % 256) ∷ put4 step ((target % 256) ∷ (target / 256 % 256) ∷ []))) × (now (code .exit) ≡ codePut (now (code .entry)) at (op ∷ (level % 256) ∷ (slot % 256) ∷ put4 step ((target % 256) ∷ (target / 256 % 256) ∷ []))) ⌝ }
 {
-    let s = arith::bytes_of_bits(step);
+    let s = octets::bytes_of_bits(step);
     put(
         code,
         at,

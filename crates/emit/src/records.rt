@@ -49,7 +49,7 @@ fn put_variables(memory: &[u32], image: &mut [u8])
     while tag_at(memory, at) != Kind::FINISH {
         let variable = cell_at(memory, at);
         let is_dint = variable.tag == Kind::DINT;
-        writing::put_variable(image, offset, is_dint, arith::signed(variable.datum));
+        writing::put_variable(image, offset, is_dint, octets::signed(variable.datum));
         at = behind(memory, at);
         offset = if offset < 1000 { offset + 5 } else { offset };
     }

@@ -44,7 +44,7 @@ fn signed(minus: bool, value: u32) -> i32
     if 2147483647 < value {
         return 0;
     }
-    let v = arith::signed(value);
+    let v = octets::signed(value);
     if minus { 0 - v } else { v }
 }
 

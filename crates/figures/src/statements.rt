@@ -26,7 +26,7 @@ fn loop_worst(first: Integer, last: Integer, step: u32, body: u32) -> u32
     if !last.known {
         return Limits::UNBOUNDED;
     }
-    ticks::looped(first.value, last.value, arith::signed(step), body)
+    ticks::looped(first.value, last.value, octets::signed(step), body)
 }
 
 // Past the labels of a group.

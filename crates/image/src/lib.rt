@@ -13,7 +13,7 @@ fn is_record(bytes: &[u8]) -> bool
     if bytes.len() < 4 {
         return false;
     }
-    arith::word_of(bytes[0], bytes[1]) <= bytes.len() - 4
+    octets::word_of(bytes[0], bytes[1]) <= bytes.len() - 4
 }
 
 // The kind of the first record.
@@ -21,7 +21,7 @@ fn kind(bytes: &[u8]) -> usize
     ensures { λ r. ⌜ r ≡ kindOf (recordIn (now (bytes .entry))) ⌝ }
 {
     if is_record(bytes) {
-        return arith::word_of(bytes[2], bytes[3]);
+        return octets::word_of(bytes[2], bytes[3]);
     }
     0
 }
@@ -31,7 +31,7 @@ fn payload(bytes: &[u8]) -> &[u8]
     ensures { λ r. ⌜ now r ≡ payloadOf (recordIn (now (bytes .entry))) ⌝ }
 {
     if is_record(bytes) {
-        let n = arith::word_of(bytes[0], bytes[1]);
+        let n = octets::word_of(bytes[0], bytes[1]);
         return &bytes[4..4 + n];
     }
     &bytes[0..0]
@@ -42,7 +42,7 @@ fn rest(bytes: &[u8]) -> &[u8]
     ensures { λ r. ⌜ now r ≡ restOf (recordIn (now (bytes .entry))) ⌝ }
 {
     if is_record(bytes) {
-        let n = arith::word_of(bytes[0], bytes[1]);
+        let n = octets::word_of(bytes[0], bytes[1]);
         return &bytes[4 + n..];
     }
     &bytes[0..0]

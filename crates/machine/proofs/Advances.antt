@@ -3,9 +3,9 @@ use mathlib.Core.Path.{_≡_, refl}
 use mathlib.Core.Bool.{Bool, true, false}
 use lib.IntN.{ℤ, _+ℤ_}
 use Rattle.rules.specs.Meaning.{passes}
-use Rattle.arith.specs.Exact.{pickV, advanceOf}
+use Rattle.compare.specs.Advancing.{pickV, advanceOf}
 use Rattle.variables.proofs.Options.{clash}
-use Rattle.arith.specs.declared.Advance.the-variants.{Ends, Steps}
+use Rattle.compare.specs.declared.Advance.the-variants.{Ends, Steps}
 
 pub ends-is : (v step last : ℤ) → advanceOf v step last ≡ Ends → passes step (v +ℤ step) last ≡ true
 unfolding advanceOf

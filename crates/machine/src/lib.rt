@@ -11,12 +11,12 @@ ghost use Rattle.rules.specs.Numbers.{isZero};
 ghost use Rattle.codes.specs.Table.{unOf, binOf, instrOf};
 ghost use Rattle.variables.specs.Slots.{typesIn};
 ghost use Rattle.machine.specs.Stepping.{view, move, only, over, holding, pushed, topOf, popped, halted, off, on, does, stepped, Does, DoesIn, DoesOn, Ticks, Stores, Turns, Puts, Goes, Answers, branchOf, taken, mayCount, fresh, Ready, Under};
-use arith::Advance;
 use arith::Answer;
 use codes::Instruction;
 use codes::Loop;
 use codes::Operator;
 use codes::Prefix;
+use compare::Advance;
 use rules::Limits;
 
 pub struct Machine {
@@ -274,7 +274,7 @@ impl Machine {
             return self.halt(Stop::Broken);
         }
         let v = self.top();
-        self.put(9, operators::flag(arith::within(lowest, highest, v)))
+        self.put(9, operators::flag(compare::within(lowest, highest, v)))
     }
 
     fn discard(self) -> Step
@@ -314,7 +314,7 @@ impl Machine {
             return self.halt(Stop::Broken);
         }
         let held = self.held;
-        if arith::passes(table[slot], by, held[level]) {
+        if compare::passes(table[slot], by, held[level]) {
             self.go(self, code, target)
         } else {
             self.advance(9)
@@ -333,7 +333,7 @@ impl Machine {
             return self.halt(Stop::Broken);
         }
         let held = self.held;
-        let a = arith::advanced(table[slot], by, held[level]);
+        let a = compare::advanced(table[slot], by, held[level]);
         let Advance::Steps(v) = a else {
             return self.advance(9);
         };
@@ -428,7 +428,7 @@ fn may_count(l: Loop, vars: &[u8], table: &[i32]) -> bool
         return false;
     }
     if variables::is_dint(vars, slot) {
-        return !arith::is_zero(by);
+        return !compare::is_zero(by);
     }
     false
 }
@@ -438,8 +438,8 @@ fn is_taken(zero: bool, v: i32) -> bool
     ensures { λ r. ⌜ r ≡ taken zero (isZero v) ⌝ }
 {
     if zero {
-        arith::is_zero(v)
+        compare::is_zero(v)
     } else {
-        !arith::is_zero(v)
+        !compare::is_zero(v)
     }
 }

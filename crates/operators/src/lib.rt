@@ -26,7 +26,7 @@ fn told(b: bool) -> Answer
 fn is_flag(x: i32) -> bool
     ensures { λ r. ⌜ r ≡ holds bool x ⌝ }
 {
-    arith::within(0, 1, x)
+    compare::within(0, 1, x)
 }
 
 // A logic operator's result, where both operands are truth values.
@@ -44,18 +44,18 @@ fn logic(x: i32, y: i32, result: bool) -> Answer
 fn both_true(x: i32, y: i32) -> bool
     ensures { λ r. ⌜ r ≡ not (isZero x || isZero y) ⌝ }
 {
-    if arith::is_zero(x) {
+    if compare::is_zero(x) {
         false
     } else {
-        !arith::is_zero(y)
+        !compare::is_zero(y)
     }
 }
 
 fn one_true(x: i32, y: i32) -> bool
     ensures { λ r. ⌜ r ≡ not (isZero x && isZero y) ⌝ }
 {
-    if arith::is_zero(x) {
-        !arith::is_zero(y)
+    if compare::is_zero(x) {
+        !compare::is_zero(y)
     } else {
         true
     }
@@ -65,7 +65,7 @@ fn invert(x: i32) -> Answer
     ensures { λ r. ⌜ evOf r ≡ unop Not x ⌝ }
 {
     if is_flag(x) {
-        told(arith::is_zero(x))
+        told(compare::is_zero(x))
     } else {
         Answer::Bad
     }
@@ -89,14 +89,14 @@ pub fn apply(o: Operator, x: i32, y: i32) -> Answer
         Operator::Mod => arith::rem(x, y),
         Operator::Add => arith::add(x, y),
         Operator::Sub => arith::sub(x, y),
-        Operator::Lt => told(arith::lt(x, y)),
-        Operator::Gt => told(arith::lt(y, x)),
-        Operator::Le => told(arith::le(x, y)),
-        Operator::Ge => told(arith::le(y, x)),
-        Operator::Eq => told(arith::same(x, y)),
-        Operator::Ne => told(!arith::same(x, y)),
+        Operator::Lt => told(compare::lt(x, y)),
+        Operator::Gt => told(compare::lt(y, x)),
+        Operator::Le => told(compare::le(x, y)),
+        Operator::Ge => told(compare::le(y, x)),
+        Operator::Eq => told(compare::same(x, y)),
+        Operator::Ne => told(!compare::same(x, y)),
         Operator::And => logic(x, y, both_true(x, y)),
-        Operator::Xor => logic(x, y, !arith::same(x, y)),
+        Operator::Xor => logic(x, y, !compare::same(x, y)),
         Operator::Or => logic(x, y, one_true(x, y)),
     }
 }

@@ -11,7 +11,7 @@ fn is_variable(kind: u8, value: i32) -> bool
     ensures { λ r. ⌜ r ≡ isSome (variableIn (typeIn kind) value) ⌝ }
 {
     match kind {
-        1 => arith::within(0, 1, value),
+        1 => compare::within(0, 1, value),
         2 => true,
         _ => false,
     }
@@ -26,7 +26,7 @@ pub fn are_variables(vars: &[u8]) -> bool
         if vars.len() - i < 5 {
             return false;
         }
-        let value = arith::value_of(vars[i + 1], vars[i + 2], vars[i + 3], vars[i + 4]);
+        let value = octets::value_of(vars[i + 1], vars[i + 2], vars[i + 3], vars[i + 4]);
         if !is_variable(vars[i], value) {
             return false;
         }
@@ -59,7 +59,7 @@ pub fn may_hold(vars: &[u8], slot: usize, value: i32) -> bool
     if is_dint(vars, slot) {
         return true;
     }
-    arith::within(0, 1, value)
+    compare::within(0, 1, value)
 }
 
 // A variable's initial value.
@@ -68,7 +68,7 @@ pub fn initial(vars: &[u8], slot: usize) -> i32
 {
     if slot < count(vars) {
         let i = slot * 5;
-        return arith::value_of(vars[i + 1], vars[i + 2], vars[i + 3], vars[i + 4]);
+        return octets::value_of(vars[i + 1], vars[i + 2], vars[i + 3], vars[i + 4]);
     }
     0
 }

@@ -27,8 +27,8 @@ pub fn put(buffer: &mut [u8], at: usize, bytes: &[u8]) -> bool
 pub fn put_head(buffer: &mut [u8], at: usize, kind: u16, length: u16) -> bool
     ensures { λ r. ⌜ (r ≡ fits (now (buffer .entry)) at (put2 length (put2 kind []))) × (now (buffer .exit) ≡ putAt (now (buffer .entry)) at (put2 length (put2 kind []))) ⌝ }
 {
-    let n = arith::bytes_of_word(length);
-    let k = arith::bytes_of_word(kind);
+    let n = octets::bytes_of_word(length);
+    let k = octets::bytes_of_word(kind);
     put(buffer, at, &[n[0], n[1], k[0], k[1]])
 }
 
@@ -36,7 +36,7 @@ pub fn put_head(buffer: &mut [u8], at: usize, kind: u16, length: u16) -> bool
 pub fn put_variable(buffer: &mut [u8], at: usize, dint: bool, init: i32) -> bool
     ensures { λ r. ⌜ (r ≡ fits (now (buffer .entry)) at (varBytes (record { type = declared dint; init = init } ∷ []))) × (now (buffer .exit) ≡ putAt (now (buffer .entry)) at (varBytes (record { type = declared dint; init = init } ∷ []))) ⌝ }
 {
-    let v = arith::bytes_of(init);
+    let v = octets::bytes_of(init);
     let k = if dint { 2 } else { 1 };
     put(buffer, at, &[k, v[0], v[1], v[2], v[3]])
 }
@@ -45,7 +45,7 @@ pub fn put_variable(buffer: &mut [u8], at: usize, dint: bool, init: i32) -> bool
 pub fn put_figures(buffer: &mut [u8], at: usize, depth: u16, worst: u32) -> bool
     ensures { λ r. ⌜ (r ≡ fits (now (buffer .entry)) at (figureBytes depth worst)) × (now (buffer .exit) ≡ putAt (now (buffer .entry)) at (figureBytes depth worst)) ⌝ }
 {
-    let d = arith::bytes_of_word(depth);
-    let w = arith::bytes_of_bits(worst);
+    let d = octets::bytes_of_word(depth);
+    let w = octets::bytes_of_bits(worst);
     put(buffer, at, &[d[0], d[1], w[0], w[1], w[2], w[3]])
 }

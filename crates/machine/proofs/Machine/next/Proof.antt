@@ -10,7 +10,7 @@ use denote.Ref.{now}
 use borrow.Author.Needs.{needs}
 use borrow.Author.Tests.{not-true, not-false}
 use Rattle.rules.specs.Limits.{forLimit}
-use Rattle.arith.specs.Exact.{advanceOf}
+use Rattle.compare.specs.Advancing.{advanceOf}
 use Rattle.variables.specs.Slots.{typesIn}
 use Rattle.machine.specs.Stepping.{view, only, mayCount}
 use Rattle.machine.proofs.Moves.{go-on, go-out, next-bad, next-go, next-on}
