@@ -29,6 +29,21 @@ fn compile_in(
     }
 }
 
+// The buffer has the published limit of bytes. No image is longer, so more room than that makes no difference.
+fn compile_within(
+    text: &[u8],
+    memory: &mut Memory,
+    image: &mut [u8],
+    capacity: usize,
+    out: &mut Buffer,
+    waiting: usize,
+) -> usize {
+    if capacity < image.len() {
+        return compile_in(text, memory, &mut image[..capacity], out, waiting);
+    }
+    compile_in(text, memory, image, out, waiting)
+}
+
 fn evaluate_in(
     text: &[u8],
     memory: &mut Memory,
@@ -46,14 +61,10 @@ fn evaluate_in(
     }
 }
 
-// No image is longer than the published limit, so more room than that makes no difference.
 pub(crate) fn compile(text: &[u8], capacity: usize, out: &mut Buffer, waiting: usize) -> usize {
     let mut memory = [0u32; Limits::MEMORY_NUMBERS];
     let mut image = [0u8; Limits::IMAGE];
-    if capacity < Limits::IMAGE {
-        return compile_in(text, &mut memory, &mut image[..capacity], out, waiting);
-    }
-    compile_in(text, &mut memory, &mut image, out, waiting)
+    compile_within(text, &mut memory, &mut image, capacity, out, waiting)
 }
 
 pub(crate) fn evaluate(
