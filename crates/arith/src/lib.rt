@@ -1,4 +1,6 @@
 // Exact arithmetic on signed 32-bit numbers: an operator's value, or the stop.
+#![tactic(auto)]
+
 ghost use Rattle.std.specs.Prelude.{◌≡◌};
 ghost use Rattle.std.specs.Int.{w32};
 ghost use Rattle.std.proofs.Common.{SFits};

@@ -1,4 +1,6 @@
 // Cells of three numbers, read in lent numbers.
+#![tactic(auto)]
+
 ghost use Rattle.std.specs.Prelude.{◌≡◌, ◌+◌, leb, length};
 ghost use Rattle.cells.specs.Reading.{cell_in, behind, is_item, is_label};
 

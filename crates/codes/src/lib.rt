@@ -1,4 +1,6 @@
 // What stands at an offset of the code: the code byte and its operands become an instruction.
+#![tactic(auto)]
+
 ghost use Rattle.std.specs.Prelude.{List, ◌≡◌, ℕ, ◌+◌, ◌≤◌, ◌<◌, length, get_or, drop};
 ghost use Rattle.rules.specs.Codes.{BIN, decode_op, decode};
 ghost use Rattle.codes.specs.Table.{lengths, word_at, value_at, bin_of, instr_of};

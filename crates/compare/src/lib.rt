@@ -1,4 +1,6 @@
 // Comparisons, ranges, and FOR's test and step.
+#![tactic(auto)]
+
 ghost use Rattle.std.specs.Prelude.{◌≡◌};
 ghost use Rattle.std.specs.Int.Signed.{lt_z, le_z};
 ghost use Rattle.rules.specs.Meaning.{passes};

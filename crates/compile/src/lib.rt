@@ -1,4 +1,6 @@
 // Compiling a text to an image, and compiling and running it once.
+#![tactic(auto)]
+
 ghost use Rattle.std.specs.Prelude.{◌≡◌, length};
 ghost use Rattle.rules.specs.Compile.{compile, buffer_after, memory_after};
 ghost use Rattle.rules.specs.Evaluate.{evaluate, table_after};

@@ -1,4 +1,6 @@
 // The image of a text that the walk accepts: sizes, code, and the records around it.
+#![tactic(auto)]
+
 mod codes;
 mod expressions;
 mod records;

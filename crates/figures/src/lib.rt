@@ -1,4 +1,6 @@
 // The depth and the worst case of a text's code.
+#![tactic(auto)]
+
 mod expressions;
 mod statements;
 mod sums;

@@ -1,4 +1,6 @@
 // An image read record by record, in place.
+#![tactic(auto)]
+
 ghost use Rattle.std.specs.Prelude.{◌≡◌};
 ghost use Rattle.rules.specs.Bytes.{record_in};
 ghost use Rattle.rules.specs.Image.{image_in};

@@ -1,4 +1,6 @@
 // The machine by value: its stack and held final values are its own, and each instruction gives the next machine.
+#![tactic(auto)]
+
 ghost use Rattle.std.specs.Prelude.{◌||◌, ◌≡◌, ◌+◌, ◌-◌, ◌≤◌, ◌<◌, ltb, drop};
 ghost use Rattle.rules.specs.Codes.{CONST, LOAD, UN, BIN, JUMP, SPAN, DROP, HOLD, FIRST, NEXT, length_of, decode};
 ghost use Rattle.rules.specs.Limits.{stack_limit, for_limit};

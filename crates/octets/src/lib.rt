@@ -1,4 +1,6 @@
 // Numbers as bytes, and bytes as numbers.
+#![tactic(auto)]
+
 ghost use Rattle.std.specs.Prelude.{[], ◌≡◌, ◌<◌};
 ghost use Rattle.rules.specs.Bytes.{to_u, of_u, put2, put4, of2, of4};
 

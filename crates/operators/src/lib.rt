@@ -1,4 +1,6 @@
 // What an operator of the code answers for its operands.
+#![tactic(auto)]
+
 ghost use Rattle.std.specs.Prelude.{◌||◌, ◌&&◌, not, ◌≡◌};
 ghost use Rattle.rules.specs.Core.{Not};
 ghost use Rattle.rules.specs.Meaning.{val, unop, logic, binop};

@@ -1,4 +1,6 @@
 // Tokens become the tree in lent numbers, or the text is refused: 17, 1 to 5, and 10 for nesting.
+#![tactic(auto)]
+
 mod constants;
 mod declarations;
 mod expressions;

@@ -1,5 +1,7 @@
 // The static library: compiling a text, running an image on a table, both in one, and filling a table with an image's initial values, for C and Rust.
 // A slice is a pointer and a length there; an answer is its number.
+#![tactic(auto)]
+
 ghost use Rattle.std.specs.Prelude.{◌≡◌, length};
 ghost use Rattle.rules.specs.Compile.{compile, buffer_after, memory_after};
 ghost use Rattle.rules.specs.Evaluate.{evaluate, table_after};

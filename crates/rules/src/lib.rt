@@ -1,4 +1,6 @@
 // The answers of the toolchain and its published limits. specs/ has the rules; specs/Answers says what each answer stands for there.
+#![tactic(auto)]
+
 ghost use Rattle.std.specs.Prelude.{◌≡◌};
 ghost use Rattle.rules.specs.Answers.{outcome_number, fill_number, published};
 

@@ -1,4 +1,6 @@
 // An image is run on a table with a budget of ticks; a table is filled with an image's initial values.
+#![tactic(auto)]
+
 ghost use Rattle.std.specs.Prelude.{◌≡◌, ◌≤◌, length};
 ghost use Rattle.rules.specs.Answers.{outcome_number, reported, filled};
 ghost use Rattle.rules.specs.Limits.{code_limit, stack_limit};

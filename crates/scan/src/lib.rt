@@ -1,4 +1,6 @@
 // A text becomes tokens in lent numbers, or is refused: 17, 1, 2, 3, 4.
+#![tactic(auto)]
+
 mod bytes;
 mod cells;
 mod comments;

@@ -192,6 +192,8 @@ joins_put t refused = refused
 -- what they are together depends on nothing else
 joins_same : {z r r' : Res (List Token)} {ts : List Token} → Joins z (ok ts) r → Joins z (ok ts) r' → r ≡ r'
 joins_same at_end at_end = refl
+joins_same at_end (behind k) = elim k [ ]
+joins_same (behind j) at_end = elim j [ ]
 joins_same (behind {t = t} j) (behind k) = ap (put t) (joins_same j k)
 
 follow-joins : {z : Res (List Token)} {m : ℕ} {p q : Piece} (k k' : ℕ → Res (List Token)) → Stays m p q → Takes p → ((n : ℕ) → 1 ≤ n → n ≤ m → Joins z (k n) (k' n)) → Joins z (follow k p 0) (follow k' q 0)

@@ -1,5 +1,7 @@
 // Worst cases in 32-bit numbers (01, worst case). A number of ticks is exact up to 4,000,000,000. A larger exact total is held as one more than that:
 // it must not be taken for an unbounded one, since a FOR with no passes takes 1 tick however long its body is.
+#![tactic(auto)]
+
 ghost use Rattle.std.specs.Prelude.{◌≡◌, ◌≤◌, ◌<◌, pos, ◌-ℤ◌};
 ghost use Rattle.rules.specs.Worst.{fin, add_w, max_w, lit, to_nat, pass_count, for_w, figure};
 ghost use Rattle.ticks.specs.Bounds.{bound_of, cut};

@@ -1,4 +1,6 @@
 // The variables of an image's first record: how many, their types and initial values.
+#![tactic(auto)]
+
 ghost use Rattle.std.specs.Prelude.{◌≡◌, pos, length, get_or};
 ghost use Rattle.rules.specs.Numbers.{dint, is_dint, holds};
 ghost use Rattle.rules.specs.Image.{type_in, variable_in, variables_in};

@@ -1,4 +1,6 @@
 // Answers requests of the second program's line protocol that compile, run, evaluate, fill or parse, one line for each, until input ends.
+#![tactic(auto)]
+
 mod answers;
 mod fields;
 mod requests;

@@ -1,4 +1,6 @@
 // The tree becomes the core program in lent numbers, or the text is refused: 4 for constants, 6 to 12, 15, 16.
+#![tactic(auto)]
+
 mod constants;
 mod declarations;
 mod expressions;

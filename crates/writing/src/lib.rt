@@ -1,4 +1,6 @@
 // Bytes, record heads, variables and figures put into a buffer.
+#![tactic(auto)]
+
 ghost use Rattle.std.specs.Prelude.{[], ◌∷◌, ◌≡◌};
 ghost use Rattle.rules.specs.Bytes.{put2};
 ghost use Rattle.rules.specs.Image.{var_bytes, figure_bytes};
