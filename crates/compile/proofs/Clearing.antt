@@ -6,7 +6,7 @@ use Prim.Native.Nat.{ℕ}
 use lib.Dec.{eqb, leb}
 use lib.ListN.{length, replicate, length-replicate}
 use lib.Seq.{sets, length-sets}
-use borrow.Author.Tests.{eq_eqb, ne_eqb}
+use borrow.Author.Tests.{eq-eqb, ne_eqb}
 use Rattle.rules.specs.Limits.{code_limit, token_numbers}
 use Rattle.rules.specs.Base.{pick, Res, ok, refuse, ◌>>=◌, need}
 use Rattle.rules.specs.Core.{Program}
@@ -27,7 +27,7 @@ use Rattle.emit.proofs.Emitted.{compiled-finished}
 -- 17 leaves memory as it is
 pub kept : (a : Compiled) (n p : ℕ) (m : List ℕ) → a ≡ Refused n p → n ≡ 17 → m ≡ memory_after (bare a) m
 unfolding memory_after
-kept a n p m known e = rw (known, eq_eqb n 17 e)
+kept a n p m known e = rw (known, eq-eqb n 17 e)
 
 -- any other number leaves it all zero
 pub cleared : (a : Compiled) (n p : ℕ) (m m' : List ℕ) → a ≡ Refused n p → (n ≡ 17 → ⊥) → m' ≡ replicate (length m) 0 → m' ≡ memory_after (bare a) m

@@ -7,7 +7,7 @@ use Prim.Native.Nat.{ℕ, ◌*◌, ◌≤◌, ◌<◌}
 use native.Mathlib.Omega.{arith}
 use lib.Dec.{eqb, leb}
 use lib.ListN.{length}
-use borrow.Author.Tests.{leb-true, eqb-true, le-leb, eq_eqb}
+use borrow.Author.Tests.{leb-true, eqb-true, le-leb, eq-eqb}
 use Rattle.rules.specs.Limits.{variable_limit, code_limit}
 use Rattle.rules.specs.Bytes.{Record, record_in}
 use Rattle.rules.specs.Core.{Variable, types, initials}
@@ -26,7 +26,7 @@ module _ {A : Type 0} (k : ℕ) where
   on_kind_lem : (o : Option Record) (f : Record → Option A) → 0 < k → kind_of o ≡ k → on_kind k o f ≡ f (parts o)
   unfolding on_kind kind_of payload_of rest_of
   on_kind_lem none f h e = absurd (omega arith)
-  on_kind_lem (some r) f h e = rw (eq_eqb r.kind k e)
+  on_kind_lem (some r) f h e = rw (eq-eqb r.kind k e)
 
   of_kind : (o : Option Record) (f : Record → Option A) {a : A} → on_kind k o f ≡ some a → (kind_of o ≡ k) × (f (parts o) ≡ some a)
   unfolding on_kind kind_of payload_of rest_of

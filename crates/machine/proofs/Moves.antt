@@ -7,7 +7,7 @@ use native.Mathlib.Omega.{arith}
 use lib.Dec.{ltb}
 use lib.IntN.{ℤ, pos, ◌+ℤ◌}
 use lib.ListN.{length, get_or, set, drop}
-use borrow.Author.Tests.{ltb-true, lt-ltb, le-ltb, le-leb, lt-leb, not_true, not-false}
+use borrow.Author.Tests.{ltb-true, lt-ltb, le-ltb, le-leb, lt-leb, not-true, not-false}
 use Rattle.rules.specs.Limits.{stack_limit, for_limit}
 use Rattle.rules.specs.Numbers.{Ty, dint, between, holds, of_bool, is_zero}
 use Rattle.rules.specs.Core.{Un, Bin}
@@ -188,7 +188,7 @@ module _ (Γ : List Ty) (code : List ℕ) (b : ℕ) (s : View) (t : List ℤ) wh
       → after b s t (jump_to c s.at a (below s.stack) s.held t) ≡ does c b (branch_of z a) s t
   unfolding act
   branch_on true a h e = rw (← one (JZ a) h, e, act)
-  branch_on false a h e = rw (← one (JNZ a) h, not_true (is_zero (top_of s.stack)) e, act)
+  branch_on false a h e = rw (← one (JNZ a) h, not-true (is_zero (top_of s.stack)) e, act)
 
   pub branch_not : (z : Bool) (a : ℕ) → 1 ≤ length s.stack → taken z (is_zero (top_of s.stack)) ≡ false
       → only t (on 3 (popped s)) ≡ does c b (branch_of z a) s t

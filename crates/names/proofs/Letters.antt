@@ -7,7 +7,7 @@ use native.Mathlib.Nat.{add-zero, sub-zero}
 use native.Mathlib.Omega.{arith}
 use lib.Dec.{eqb}
 use lib.ListN.{get_or}
-use borrow.Author.Tests.{eq_eqb, ne_eqb}
+use borrow.Author.Tests.{eq-eqb, ne_eqb}
 use Rattle.rules.specs.Base.{pick, same}
 use Rattle.rules.specs.Tokens.{upper}
 use Rattle.names.specs.Rows.{spelling}
@@ -47,7 +47,7 @@ module _ (t : List ℕ) (a b n : ℕ) where
 
       -- where the next letters are alike, the rest decides
       pub letter_on : upper (get_or t (a + k) 0) ≡ upper (get_or t (b + k) 0) → alike k ≡ alike (k + 1)
-      letter_on e = step ∙ rw (eq_eqb _ _ e)
+      letter_on e = step ∙ rw (eq-eqb _ _ e)
 
       -- where they are not, nor are the spellings
       pub letter_off : (upper (get_or t (a + k) 0) ≡ upper (get_or t (b + k) 0) → ⊥) → alike k ≡ false

@@ -8,7 +8,7 @@ use native.Mathlib.Omega.{arith}
 use lib.Dec.{eqb, ltb}
 use lib.ListN.{length, length-append}
 use lib.Seq.{sets}
-use borrow.Author.Tests.{eq_eqb, ne_eqb, lt-ltb, le-ltb, ltb-false}
+use borrow.Author.Tests.{eq-eqb, ne_eqb, lt-ltb, le-ltb, ltb-false}
 use Rattle.rules.specs.Base.{pick}
 use Rattle.rules.specs.Tokens.{Token, plain}
 use Rattle.rules.specs.Syntax as S
@@ -151,7 +151,7 @@ module _ {n : ℕ} {m₀ : List ℕ} {at₀ : ℕ} {B : Type 0} {encode : B → 
 
       pub is : (k : ℕ) → kind_at n m s ≡ k → Ends n m₀ at₀ encode mₑ r v m s a → Ends n m₀ at₀ encode mₑ r v m s (when k a b)
       unfolding when whether
-      is k q e = passes (λ x. eqb x k) (eq_eqb _ _ q) e
+      is k q e = passes (λ x. eqb x k) (eq-eqb _ _ q) e
 
       pub isn't : (k : ℕ) → (kind_at n m s ≡ k → ⊥) → Ends n m₀ at₀ encode mₑ r v m s b → Ends n m₀ at₀ encode mₑ r v m s (when k a b)
       unfolding when whether

@@ -6,7 +6,7 @@ use mathlib.Core.Option.{none}
 use Prim.Native.Nat.{ℕ, zero, suc, ◌*◌, ◌-◌, ◌≤◌, ◌<◌}
 use native.Mathlib.Omega.{arith}
 use lib.Dec.{eqb}
-use borrow.Author.Tests.{eq_eqb, ne_eqb}
+use borrow.Author.Tests.{eq-eqb, ne_eqb}
 use Rattle.rules.specs.Base.{pick}
 use Rattle.rules.specs.Kinds.{COMMA, COLON}
 use Rattle.rules.specs.Tokens.{Token}
@@ -48,7 +48,7 @@ comma_label = ◌>>◌ S.skip (◌>>=◌ one_label (λ a. give a))
 -- behind a label, where a comma is next: a comma and a label, and what is behind it
 again : (g : ℕ) (us : List Token) → (S.next us).kind ≡ COMMA → behind_label (suc g) us ≡ on_read (comma_label us) (λ e. ◌>>=◌ (behind_label g) (λ x. give (e ∷ x)))
 unfolding ◌>>=◌ ◌>>◌ on_read give when S.skip behind_label comma_label
-again g us e = rw (eq_eqb _ _ e) (onward g (S.rest us) ∙ sym (joins (one_label (S.rest us)) _ _))
+again g us e = rw (eq-eqb _ _ e) (onward g (S.rest us) ∙ sym (joins (one_label (S.rest us)) _ _))
 
 -- where none is, nothing more
 ended : {B : Type 0} (f : ℕ) (us : List Token) (K : List Label → Reader B) → ((S.next us).kind ≡ COMMA → ⊥) → ◌>>=◌ (behind_label f) K us ≡ K [] us

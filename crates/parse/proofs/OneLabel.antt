@@ -4,7 +4,7 @@ use mathlib.Core.Bool.{true}
 use mathlib.Core.List.{List}
 use mathlib.Core.Option.{none, some}
 use Prim.Native.Nat.{ℕ, ◌*◌, ◌≤◌}
-use borrow.Author.Tests.{eq_eqb, ne_eqb}
+use borrow.Author.Tests.{eq-eqb, ne_eqb}
 use Rattle.rules.specs.Kinds.{DOTS}
 use Rattle.rules.specs.Tokens.{Token}
 use Rattle.rules.specs.Syntax as S
@@ -25,7 +25,7 @@ lone c us h = rw (ne_eqb _ _ h)
 ranged : (c : Con) (us : List Token) → (S.next us).kind ≡ DOTS
     → ◌>>=◌ (maybe DOTS) (λ d. give (label c d)) us ≡ ◌>>◌ S.skip (◌>>=◌ constant (λ d. give (label c (some d)))) us
 unfolding ◌>>=◌ ◌>>◌ on_read give maybe when S.skip
-ranged c us h = rw (eq_eqb _ _ h) (joins (constant (S.rest us)) _ _)
+ranged c us h = rw (eq-eqb _ _ h) (joins (constant (S.rest us)) _ _)
 
 module _ {n : ℕ} {m m₁ : List ℕ} {s s₁ : Step} (behind : 3 * n ≤ free_of s) (low : Did con_cells n m m₁ s s₁ constant) where
   -- some constant

@@ -6,7 +6,7 @@ use mathlib.Core.Option.{none}
 use Prim.Native.Nat.{ℕ, zero, suc, ◌+◌, ◌*◌, ◌-◌, ◌≤◌, ◌<◌}
 use native.Mathlib.Omega.{arith}
 use lib.Dec.{ltb}
-use borrow.Author.Tests.{eq_eqb, ne_eqb, ltb-true, ltb-false}
+use borrow.Author.Tests.{eq-eqb, ne_eqb, ltb-true, ltb-false}
 use Rattle.rules.specs.Limits.{token_numbers, memory_numbers}
 use Rattle.rules.specs.Numbers.{bool, dint}
 use Rattle.rules.specs.Kinds.{FINISH, NAME, BOOL, DINT, END_PROGRAM, END_VAR, PROGRAM, VAR, ASSIGN, COLON, SEMI}
@@ -98,7 +98,7 @@ module _ {n : ℕ} {m : List ℕ} {s : Step} (behind : 3 * n ≤ free_of s) wher
   unfolding declarations when kind_at ◌>>=◌ decls_cells
   declares_more so sees same most on d =
       loops_step decls_cells declarations 1 1 n m s behind w decl_cells (λ g. declaration) ◌∷◌ (λ x xs. refl) so
-      (λ g us z. rw (eq_eqb _ _ (sym (ap (λ c. c.kind) z) ∙ sym sees ∙ same))) (λ g h. d) (omega arith)
+      (λ g us z. rw (eq-eqb _ _ (sym (ap (λ c. c.kind) z) ∙ sym sees ∙ same))) (λ g h. d) (omega arith)
     where
       w : Decl
       w = record { name = record { place = 0; letters = [] }; type = bool; init = none }

@@ -6,7 +6,7 @@ use mathlib.Core.Option.{Option, none, some}
 use Prim.Native.Nat.{ℕ, zero, suc, ◌+◌, ◌*◌, ◌-◌, ◌≤◌, ◌<◌}
 use native.Mathlib.Omega.{arith}
 use lib.Dec.{eqb, ltb}
-use borrow.Author.Tests.{eq_eqb, ne_eqb, ltb-true, ltb-false}
+use borrow.Author.Tests.{eq-eqb, ne_eqb, ltb-true, ltb-false}
 use Rattle.rules.specs.Kinds.{FINISH, ELSE, ELSIF, END_CASE, END_IF, SEMI, COLON, THEN}
 use Rattle.rules.specs.Tokens as T
 use Rattle.rules.specs.Syntax.{truth, Stm, Stms, empty, then, Branches, no_else, else_b, branch, Groups, no_other, else_g, group, Read, got, bad, Reader, on_read, ◌>>=◌, ◌>>◌, give, next, rest, skip, take, when, whether, expr, labels, starts_constant, starts_statement, one_branch, one_group, one_more, statement, list, branches, groups}
@@ -192,7 +192,7 @@ one_branch_lem d q f us =
 elsif-branch : (d q g : ℕ) (us : List T.Token) → (next us).kind ≡ ELSIF
     → more_branches d q (suc g) us ≡ on_read (◌>>◌ skip (one_condition g d q) us) (λ e. ◌>>=◌ (more_branches d q g) (λ b. give (put_branch e b)))
 unfolding when branches one_branch conditions skip ◌>>◌ on_read
-elsif-branch d q g us e = rw (eq_eqb _ _ e) (one_branch_lem d q g (rest us))
+elsif-branch d q g us e = rw (eq-eqb _ _ e) (one_branch_lem d q g (rest us))
 
 -- without it, ELSE or nothing
 no_elsif : (d q f : ℕ) (us : List T.Token) → ((next us).kind ≡ ELSIF → ⊥)

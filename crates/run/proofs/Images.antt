@@ -5,7 +5,7 @@ use mathlib.Core.List.{List}
 use mathlib.Core.Option.{Option, none, some}
 use Prim.Native.Nat.{ℕ, ◌≤◌}
 use lib.ListN.{length}
-use borrow.Author.Tests.{eq_eqb, ne_eqb}
+use borrow.Author.Tests.{eq-eqb, ne_eqb}
 use Rattle.rules.specs.Limits.{code_limit, stack_limit}
 use Rattle.rules.specs.Meaning.{Table}
 use Rattle.rules.specs.Image.{Loaded, image_in}
@@ -92,4 +92,4 @@ module _ (b : List ℕ) (t : Table) {r : Filling} where
       by : {o : Option Loaded} → Read b o → is_some o ≡ true → r ≡ fill_loaded o t
       by nothing e = clash (cc)
       by (loaded i q) e =
-          rw (eq_eqb (length t) (length i.vars) (f ∙ ap length (sym (loaded-types b i q)) ∙ types-length i.vars), loaded_values b i q) p
+          rw (eq-eqb (length t) (length i.vars) (f ∙ ap length (sym (loaded-types b i q)) ∙ types-length i.vars), loaded_values b i q) p

@@ -9,7 +9,7 @@ use lib.IntN.{ℤ, pos}
 use lib.ListN.{length, get_or, set, drop, drop_of_length-le}
 use lib.Seq.{drop-cons, get_or-set_same, get_or-set_other}
 use borrow.Author.Count.{below_more}
-use borrow.Author.Tests.{eq_eqb, ne_eqb}
+use borrow.Author.Tests.{eq-eqb, ne_eqb}
 use Rattle.rules.specs.Numbers.{Ty, dint, holds}
 use Rattle.rules.specs.Meaning.{Table}
 use Rattle.rules.specs.Run.{all_hold, valid}
@@ -21,7 +21,7 @@ module _ (Γ : List Ty) (t : Table) where
 
   pub valid_is : {r : Bool} → length t ≡ length Γ → r ≡ all_hold Γ t → r ≡ valid Γ t
   unfolding valid
-  valid_is h e = rw (eq_eqb (length t) (length Γ) h) e
+  valid_is h e = rw (eq-eqb (length t) (length Γ) h) e
 
   one : (k : ℕ) → k < length Γ → k < length t
       → all_hold (drop k Γ) (drop k t) ≡ (holds (get_or Γ k dint) (get_or t k (pos 0)) && all_hold (drop (k + 1) Γ) (drop (k + 1) t))

@@ -9,7 +9,7 @@ use native.Mathlib.Decide.{dec_le}
 use native.Mathlib.Omega.{arith}
 use lib.Dec.{ltb}
 use lib.ListN.{length, drop, get_or}
-use borrow.Author.Tests.{eq_eqb, ne_eqb, lt-ltb, le-ltb, le-leb, lt-leb, not_true, not-false}
+use borrow.Author.Tests.{eq-eqb, ne_eqb, lt-ltb, le-ltb, le-leb, lt-leb, not-true, not-false}
 use Rattle.rules.specs.Base.{pick}
 use Rattle.rules.specs.Tokens.{Piece, bad, is_under, in_integer, digit_of, run, digits, integer_piece}
 use Rattle.rules.specs.Cells.{datum}
@@ -78,12 +78,12 @@ module _ {t : List ℕ} {from b start i v : ℕ} {after : Bool} (r : Reading t f
             past = omega arith;
             within = omega (arith, on_lt);
             held = r.held;
-            same = split ∙ rw (eq_eqb _ _ u, not-false after h);
+            same = split ∙ rw (eq-eqb _ _ u, not-false after h);
           }
 
       pub under_bad : not after ≡ true → Bad 4 ≡ shown (piece_from t from b start 0 false)
       unfolding digits is_under integer_piece shown
-      under_bad h = rw (split, eq_eqb _ _ u, not_true after h)
+      under_bad h = rw (split, eq-eqb _ _ u, not-true after h)
 
     -- a digit of the base, or any other byte
     module _ (u : get_or t i 0 ≡ 95 → ⊥) {d : ℕ} (e : d ≡ digit_of (get_or t i 0)) where
@@ -110,7 +110,7 @@ module _ {t : List ℕ} {from b start i v : ℕ} {after : Bool} (r : Reading t f
     -- and the last one was no digit
     pub end_bad : not after ≡ true → Bad 4 ≡ shown (piece_from t from b start 0 false)
     unfolding integer_piece shown
-    end_bad h = rw (over, not_true after h)
+    end_bad h = rw (over, not-true after h)
 
     -- or the value is too large
     pub end_large : not after ≡ false → 2147483648 < v → Bad 4 ≡ shown (piece_from t from b start 0 false)

@@ -9,7 +9,7 @@ use native.Mathlib.Omega.{arith}
 use lib.Dec.{eqb}
 use lib.ListN.{length, take, drop, get_or, length-take, length-drop, drop_of_length-le}
 use lib.Seq.{drop-cons, get_or-take, get_or-drop}
-use borrow.Author.Tests.{eq_eqb, ne_eqb}
+use borrow.Author.Tests.{eq-eqb, ne_eqb}
 use Rattle.rules.specs.Base.{pick, same}
 use Rattle.rules.specs.Tokens.{upper, fold}
 use Rattle.scan.specs.Words.{spelled}
@@ -77,7 +77,7 @@ module _ (t : List ℕ) (from n row : ℕ) (fits : from + n ≤ length t) (below
       pub letter_on : upper (get_or t (from + k) 0) ≡ get_or rows (12 * row + 1 + k) 0 →
           same (drop k (word_at t from n)) (drop k (spelled row)) ≡
           same (drop (k + 1) (word_at t from n)) (drop (k + 1) (spelled row))
-      letter_on e = step ∙ rw (eq_eqb _ _ e)
+      letter_on e = step ∙ rw (eq-eqb _ _ e)
 
       -- where they are not, the words differ
       pub letter_off : (upper (get_or t (from + k) 0) ≡ get_or rows (12 * row + 1 + k) 0 → ⊥) →

@@ -5,7 +5,7 @@ use mathlib.Core.List.{List, [], ◌∷◌}
 use Prim.Native.Nat.{ℕ, ◌+◌, ◌-◌, ◌≤◌, ◌<◌}
 use native.Mathlib.Omega.{arith}
 use lib.ListN.{length, take, drop, get_or}
-use borrow.Author.Tests.{eq_eqb, ne_eqb, le-leb, lt-leb}
+use borrow.Author.Tests.{eq-eqb, ne_eqb, le-leb, lt-leb}
 use Rattle.rules.specs.Base.{pick}
 use Rattle.rules.specs.Kinds.{NAME}
 use Rattle.rules.specs.Cells.{datum}
@@ -44,7 +44,7 @@ module _ (w : List ℕ) (i : ℕ) where
 module _ (k : ℕ) (w : List ℕ) (i n : ℕ) where
   as_name : k ≡ NAME → shown (tok (word_kind k w i) n) ≡ Token NAME (length w) n
   unfolding shown word_kind datum
-  as_name e = rw (eq_eqb k NAME e)
+  as_name e = rw (eq-eqb k NAME e)
 
   as_reserved : (k ≡ NAME → ⊥) → shown (tok (word_kind k w i) n) ≡ Token k 0 n
   unfolding shown word_kind datum plain

@@ -10,7 +10,7 @@ use native.Mathlib.Numerals.{add-one}
 use native.Mathlib.Omega.{arith}
 use lib.ListN.{length, drop, get_or, length-drop}
 use lib.Seq.{drop-cons}
-use borrow.Author.Tests.{eq_eqb, ne_eqb}
+use borrow.Author.Tests.{eq-eqb, ne_eqb}
 use Rattle.rules.specs.Tokens.{starts, comment}
 
 -- what is to come of it
@@ -59,7 +59,7 @@ module _ (t : List ℕ) (from i d : ℕ) (late : from ≤ i) where
       -- the last one closes
       pub ends : starts 42 41 (drop i t) ≡ true → d ≡ 1 → left t from i d ≡ some ((i + 2) - from)
       unfolding comment
-      ends g e = rw (two_left, rw two_left at h, rw two_left at g, eq_eqb d 1 e, counted 2)
+      ends g e = rw (two_left, rw two_left at h, rw two_left at g, eq-eqb d 1 e, counted 2)
 
       -- the byte at i is one of its text
       pub passes : starts 42 41 (drop i t) ≡ false → left t from i d ≡ left t from (i + 1) d

@@ -8,7 +8,7 @@ use native.Mathlib.Omega.{arith}
 use lib.Dec.{eqb}
 use lib.ListN.{length, drop, get_or, length-drop}
 use lib.Seq.{get_or-drop}
-use borrow.Author.Tests.{eqb-true, eqb-false, eq_eqb, ne_eqb}
+use borrow.Author.Tests.{eqb-true, eqb-false, eq-eqb, ne_eqb}
 use Rattle.rules.specs.Tokens.{starts}
 
 -- the order of two numbers does not matter to whether they are the same
@@ -16,7 +16,7 @@ pub eqb_flip : (m n : ℕ) → eqb m n ≡ eqb n m
 eqb_flip m n = by (eqb n m) refl
   where
     by : (d : Bool) → eqb n m ≡ d → eqb m n ≡ d
-    by true e = eq_eqb m n (sym (eqb-true n m e))
+    by true e = eq-eqb m n (sym (eqb-true n m e))
     by false e = ne_eqb m n (λ q. eqb-false n m e (sym q))
 
 module _ (a b : ℕ) (u : 1 ≤ a) (v : 1 ≤ b) where
@@ -37,7 +37,7 @@ module _ (a b : ℕ) (u : 1 ≤ a) (v : 1 ≤ b) where
 
   -- the first one is there, so the second one decides
   pub starts_then : (t : List ℕ) (i : ℕ) → get_or t i 0 ≡ a → starts a b (drop i t) ≡ eqb (get_or t (i + 1) 0) b
-  starts_then t i h = starts_at t i ∙ rw (eq_eqb a (get_or t i 0) (sym h), eqb_flip b)
+  starts_then t i h = starts_at t i ∙ rw (eq-eqb a (get_or t i 0) (sym h), eqb_flip b)
 
 -- what starts with two bytes has two
 some_two : (a b : ℕ) (s : List ℕ) → starts a b s ≡ true → 1 < length s

@@ -8,7 +8,7 @@ use Rattle.rules.specs.Base.{pick, Res, ok, refuse, ◌>>=◌, need}
 use Rattle.rules.specs.Limits.{integer_limit, text_limit, memory_numbers}
 use Rattle.rules.specs.Kinds.{FINISH, NAME}
 use Rattle.rules.specs.Tokens.{Token, plain, run, starts, comment, word_kind, word, is_name, in_line, in_name, in_integer, is_blank, starts_name, is_digit, is_capital, is_small, is_under, within, integer, symbol1, symbol2, Piece, gap, tok, bad, comment_piece, name_piece, integer_piece, symbol_piece, piece, put, follow, tokens_at, tokens}
-use Rattle.theorems.specs.Tests.{eqb_t, not_true}
+use Rattle.theorems.specs.Tests.{eqb_t, not-true}
 use Rattle.theorems.specs.Pieces.{Takes, gap_takes, tok_takes, follow_same, piece-takes}
 use Rattle.theorems.specs.TokenPlaces.{run_short}
 use Rattle.theorems.specs.Placeless.{placeless, essence, anonymous, placeless_answer, same_answer}
@@ -137,7 +137,7 @@ ends_drop (suc n) (x ∷ y ∷ s) h = ends_drop n (y ∷ s) h
 -- a run of bytes that takes in no line end ends in its line
 run-stays : (p : ℕ → Bool) → ((x : ℕ) → in_line x ≡ false → p x ≡ false) → (x : ℕ) (s b : List ℕ) → ends_line (x ∷ s) ≡ true → run p (x ∷ (s ++ b)) ≡ run p (x ∷ s)
 unfolding run ends_line
-run-stays p h x [] b e = rw (h x (not_true _ e))
+run-stays p h x [] b e = rw (h x (not-true _ e))
 run-stays p h x (y ∷ s) b e = ap (λ r. pick (p x) (λ _. x ∷ r) (λ _. [])) (run-stays p h y s b e)
 
 -- the piece of a text of m bytes, and of the text with more behind it: the same if it is not bad
@@ -164,7 +164,7 @@ integer-stays (some v) n m h = both (Stays m) (leb v integer_limit) (tok_stays h
 
 piece-stays : (x : ℕ) (s b : List ℕ) → ends_line (x ∷ s) ≡ true → Stays (length (x ∷ s)) (piece x (x ∷ s) 0) (piece x (x ∷ (s ++ b)) 0)
 unfolding piece name_piece symbol_piece symbol2 starts ends_line
-piece-stays x [] b h = rw (blank_end x (not_true _ h)) (gap_stays {n = 1} (omega arith))
+piece-stays x [] b h = rw (blank_end x (not-true _ h)) (gap_stays {n = 1} (omega arith))
 piece-stays x (y ∷ s) b h =
     let R = Stays (length (x ∷ y ∷ s)) in
     both R (is_blank x) (gap_stays (omega arith))

@@ -32,12 +32,12 @@ le-leb m n h = T_true (leb m n) (le→leb m n h)
 pub eqb_t : (m n : ℕ) → eqb m n ≡ true → m ≡ n
 eqb_t m n e = eqb→eq m n (rw e tt)
 
-pub eq_eqb : (m n : ℕ) → m ≡ n → eqb m n ≡ true
-eq_eqb m n e = rw e (T_true (eqb n n) (eqb_refl n))
+pub eq-eqb : (m n : ℕ) → m ≡ n → eqb m n ≡ true
+eq-eqb m n e = rw e (T_true (eqb n n) (eqb_refl n))
 
-pub not_true : (b : Bool) → not b ≡ true → b ≡ false
-not_true true e = cc
-not_true false e = refl
+pub not-true : (b : Bool) → not b ≡ true → b ≡ false
+not-true true e = cc
+not-true false e = refl
 
 pub and_l : (a b : Bool) → a && b ≡ true → a ≡ true
 and_l true b e = refl

@@ -5,7 +5,7 @@ use Rattle.std.proofs.Common.{arith}
 use Rattle.rules.specs.Numbers.{Ty, dint, holds}
 use Rattle.rules.specs.Meaning.{Table}
 use Rattle.rules.specs.Run.{all_hold, valid}
-use Rattle.theorems.specs.Tests.{and_l, and_r, eqb_t, eq_eqb}
+use Rattle.theorems.specs.Tests.{and_l, and_r, eqb_t, eq-eqb}
 use Rattle.theorems.specs.Typing.{Valid}
 
 each_holds : (Γ : L.List Ty) (t : Table) → length t ≡ length Γ → all_hold Γ t ≡ true → (i : ℕ) → i < length Γ → holds (get_or Γ i dint) (get_or t i (pos 0)) ≡ true
@@ -29,4 +29,4 @@ valid_is Γ t h =
 
 pub is-valid : (Γ : L.List Ty) (t : Table) → Valid Γ t → valid Γ t ≡ true
 unfolding valid
-is-valid Γ t v = rw (eq_eqb (length t) (length Γ) v.long, all_hold_lem Γ t v.long v.each)
+is-valid Γ t v = rw (eq-eqb (length t) (length Γ) v.long, all_hold_lem Γ t v.long v.each)

@@ -17,7 +17,7 @@ use Rattle.theorems.specs.WorstCase.{WfS, WfL, WfB, WfG}
 use Rattle.theorems.specs.Fields.{Z32, FitE, FitLb, FitS, FitL, FitB, FitG}
 use Rattle.theorems.specs.Typing.{HasTy, TyS, TyL, TyB, TyG}
 use Rattle.theorems.specs.WellTyped.{inv, ok_inj, needed, same-ty, known_in, well}
-use Rattle.theorems.specs.Tests.{leb-t, not_true, eq_eqb}
+use Rattle.theorems.specs.Tests.{leb-t, not-true, eq-eqb}
 
 -- Constants
 
@@ -50,7 +50,7 @@ step_fits (some c) z e =
     let a = inv (exact c) _ e in
     let b = inv (need (same_ty (con_type c) dint) 8 (con_first c)) _ a.2 in
     let d = inv (need (not (is_zero (con_value c))) 15 (con_first c)) _ b.2 in
-    subst (λ y. (is_zero y ≡ false) × Z32 y) (ok_inj d.2) (not_true _ (needed _ _ _ _ d.1), exact_fits c a.0 a.1)
+    subst (λ y. (is_zero y ≡ false) × Z32 y) (ok_inj d.2) (not-true _ (needed _ _ _ _ d.1), exact_fits c a.0 a.1)
 
 zero_no : (z : ℤ) → is_zero z ≡ false → z ≢ pos 0
 unfolding is_zero
@@ -103,7 +103,7 @@ free_tail s taken i h = by (eqb i s) refl
 free_head : (s : ℕ) (taken : L.List ℕ) (i : ℕ) → Free (s ∷ taken) i → i ≢ s
 unfolding member
 free_head s taken i h e =
-    let w : eqb i s ≡ true = eq_eqb i s e in
+    let w : eqb i s ≡ true = eq-eqb i s e in
     let q : true ≡ false = simp w at h in
     let z : ◌≡◌ {A = ℕ} 0 1 = cc in omega arith
 
@@ -166,7 +166,7 @@ module _ (vs : L.List Var) (few : length (types (nameless vs)) ≤ 64) where
       let a = inv (known vs v) _ e in
       let b = inv (need (not (member a.0.slot taken)) 11 v.place) _ a.2 in
       let k = known_in vs v a.0 a.1 in
-      subst (λ y. Into taken y) (ok_inj b.2) (record { inside = k.0; type = k.1; free = not_true _ (needed _ _ _ _ b.1) })
+      subst (λ y. Into taken y) (ok_inj b.2) (record { inside = k.0; type = k.1; free = not-true _ (needed _ _ _ _ b.1) })
 
   -- what an accepted statement, list, … meets
   pub record FineS (taken : L.List ℕ) (s : Stmt) : Type 0 where

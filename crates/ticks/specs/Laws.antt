@@ -1,6 +1,6 @@
 -- A worst case that is computed from cut bounds is the cut of the worst case.
 use Rattle.std.specs.Prelude.{◌≡◌, refl, Bool, true, false, ℕ, zero, suc, ◌+◌, ◌*◌, ◌≤◌, ◌<◌, min, leb, ℤ}
-use Rattle.std.proofs.Common.{arith, le-leb, leb-true, leb-false, eq_eqb, ne_eqb}
+use Rattle.std.proofs.Common.{arith, le-leb, leb-true, leb-false, eq-eqb, ne_eqb}
 use Rattle.std.proofs.lemmas.Bool.{lt-leb}
 use Rattle.rules.specs.Limits.{worst_limit, unbounded_mark}
 use Rattle.rules.specs.Worst.{Bound, fin, unb, add_w, max_w, Lit, lit, nolit, pass_count, for_w, figure}
@@ -9,7 +9,7 @@ use Rattle.ticks.specs.Bounds.{capped, bound_of, cut}
 -- the mark is unbounded
 pub mark_is : (n : ℕ) → n ≡ unbounded_mark → bound_of n ≡ unb
 unfolding bound_of
-mark_is n e = rw (eq_eqb n unbounded_mark e)
+mark_is n e = rw (eq-eqb n unbounded_mark e)
 
 -- any other number is itself
 pub number_is : (n : ℕ) → (n ≡ unbounded_mark → ⊥) → bound_of n ≡ fin n

@@ -10,7 +10,7 @@ use lib.Dec.{eqb, ltb}
 use lib.IntN.{ℤ}
 use lib.ListN.{length, drop, take}
 use lib.Seq.{sets, length-sets, slice}
-use borrow.Author.Tests.{eq_eqb, ne_eqb, ltb-true}
+use borrow.Author.Tests.{eq-eqb, ne_eqb, ltb-true}
 use Rattle.rules.specs.Limits.{token_numbers, variable_limit}
 use Rattle.rules.specs.Base.{Res, ok, refuse, ◌>>=◌, need}
 use Rattle.rules.specs.Numbers.{Ty, bool, dint}
@@ -45,7 +45,7 @@ spelled text v h = stands_spelled text v.place v.letters h
 -- what is found among variables has a slot before their number
 new_slot : (l : List ℕ) (vs : List Var) (o : Option Slot) → find l 0 vs ≡ o → eqb (slot_or (length vs) o) (length vs) ≡ is_none o
 unfolding slot_or is_none
-new_slot l vs none e = eq_eqb (length vs) (length vs) refl
+new_slot l vs none e = eq-eqb (length vs) (length vs) refl
 new_slot l vs (some s) e = ne_eqb s.slot (length vs) (λ q. absurd (omega (arith, found_slot l vs s e)))
 
 -- what the code finds among the rows says so

@@ -2,7 +2,7 @@
 use mathlib.Core.Path.{◌≡◌, sym, ◌∙◌}
 use Prim.Native.Nat.{ℕ}
 use borrow.Author.Rules.{rules}
-use borrow.Author.Tests.{eq_eqb, ne_eqb}
+use borrow.Author.Tests.{eq-eqb, ne_eqb}
 use Rattle.names.specs.Rows.{type_of}
 use Rattle.rules.specs.Cells.{type_kind}
 use Rattle.names.proofs.kind.Statement.{statement}
@@ -22,7 +22,7 @@ number-requires c κs = search rules
 -- a number that is BOOL's is, and any other is DINT's
 is-bool : (k n : ℕ) → k ≡ n → k ≡ 4 → 4 ≡ type_kind (type_of n)
 unfolding type_kind type_of
-is-bool k n e h = rw (eq_eqb n 4 (sym e ∙ h))
+is-bool k n e h = rw (eq-eqb n 4 (sym e ∙ h))
 
 is-dint : (k n : ℕ) → k ≡ n → (k ≡ 4 → ⊥) → 7 ≡ type_kind (type_of n)
 unfolding type_kind type_of

@@ -5,7 +5,7 @@ use mathlib.Core.List.{List}
 use Prim.Native.Nat.{ℕ}
 use lib.ListN.{length}
 use borrow.Author.Rules.{rules}
-use borrow.Author.Tests.{not_true, not-false}
+use borrow.Author.Tests.{not-true, not-false}
 use Rattle.rules.specs.Image.{image_in}
 use Rattle.variables.specs.Slots.{types_in, is_some}
 use Rattle.image.specs.Parts.{variables_part}
@@ -25,7 +25,7 @@ is-image-requires : tie.Need-is-image-requires
 is-image-requires c κs = search rules
 
 returns : tie.Need-returns
-returns c = fill_none _ _ (sym c.before.is-image.ensures ∙ not_true _ c.if1.true) refl
+returns c = fill_none _ _ (sym c.before.is-image.ensures ∙ not-true _ c.if1.true) refl
 
 variables-requires : tie.Need-variables-requires
 variables-requires c κs = search rules

@@ -7,7 +7,7 @@ use lib.ListN.{length, get_or, drop}
 use lib.IntN.{pos}
 use mir.Facts.{to_z-of_z}
 use borrow.Author.Rules.{rules, sfits_of}
-use borrow.Author.Tests.{not_true, not-false}
+use borrow.Author.Tests.{not-true, not-false}
 use Rattle.rules.specs.Numbers.{dint, holds}
 use Rattle.rules.specs.Run.{all_hold}
 use Rattle.variables.specs.Slots.{types_in}
@@ -52,7 +52,7 @@ may-hold-requires c κs = search rules
 returns-2 : tie.Need-returns-2 invariant-loop decreases-loop
 returns-2 c =
     let i = c.before.before.before.before.loop.invariant in
-    valid_is _ _ i.1 (sym (i.2 ∙ hold_off _ _ _ i.1 c.before.before.before.loop-test.true (held c.before ∙ not_true _ c.if2.true)))
+    valid_is _ _ i.1 (sym (i.2 ∙ hold_off _ _ _ i.1 c.before.before.before.loop-test.true (held c.before ∙ not-true _ c.if2.true)))
 
 add-k : tie.Need-overflow-add-k invariant-loop decreases-loop
 add-k c = omega arith

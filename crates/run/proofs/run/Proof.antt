@@ -4,7 +4,7 @@ use mathlib.Core.Bool.{true}
 use mathlib.Core.List.{List}
 use Prim.Native.Nat.{ℕ}
 use borrow.Author.Rules.{rules}
-use borrow.Author.Tests.{not_true, not-false}
+use borrow.Author.Tests.{not-true, not-false}
 use Rattle.rules.specs.Image.{image_in}
 use Rattle.rules.specs.Run.{valid}
 use Rattle.variables.specs.Slots.{types_in, is_some}
@@ -32,7 +32,7 @@ refuse-requires : tie.Need-refuse-requires
 refuse-requires c κs = search rules
 
 returns : tie.Need-returns
-returns c = no_image _ _ _ (sym c.before.before.is-image.ensures ∙ not_true _ c.before.if1.true) (c.refuse.ensures _)
+returns c = no_image _ _ _ (sym c.before.before.is-image.ensures ∙ not-true _ c.before.if1.true) (c.refuse.ensures _)
 
 variables-requires : tie.Need-variables-requires
 variables-requires c κs = search rules
@@ -48,7 +48,7 @@ same_length c = search rules
 
 returns-2 : tie.Need-returns-2
 returns-2 c =
-    bad_table _ _ _ (imaged c.before.before.before.before.before) (validated c.before.before ∙ not_true _ c.before.if2.true) (c.refuse2.ensures _)
+    bad_table _ _ _ (imaged c.before.before.before.before.before) (validated c.before.before ∙ not-true _ c.before.if2.true) (c.refuse2.ensures _)
 
 code-requires : tie.Need-code-requires
 code-requires c κs = search rules

@@ -6,7 +6,7 @@ use native.Mathlib.Omega.{arith}
 use lib.ListN.{length, drop, length-drop}
 use mir.Facts.{to_z-of_z}
 use borrow.Author.Rules.{rules, sfits_of}
-use borrow.Author.Tests.{not_true, not-false}
+use borrow.Author.Tests.{not-true, not-false}
 use Rattle.rules.specs.Image.{variables_in}
 use Rattle.variables.specs.Slots.{is_some}
 use Rattle.variables.proofs.Reading.{at_variable, at_cut, at_end}
@@ -71,7 +71,7 @@ returns-2 c =
     let l = v.before.before.before.before.before.before.before in
     let s = l.before.before.args.vars.now in
     let e = at_variable s l.loop.i (omega arith) (to_z-of_z (sfits_of v.value_of_lem.type-inv) ∙ v.value_of_lem.ensures) c.before.is-variable.ensures in
-    sym (l.loop.invariant.1 ∙ e ∙ rw (not_true c.before.is-variable.result c.if2.true))
+    sym (l.loop.invariant.1 ∙ e ∙ rw (not-true c.before.is-variable.result c.if2.true))
 
 add-i : tie.Need-overflow-add-i invariant-loop decreases-loop
 add-i c = search rules

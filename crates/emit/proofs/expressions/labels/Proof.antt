@@ -5,7 +5,7 @@ use Prim.Native.Nat.{◌-◌, ◌≤◌}
 use native.Mathlib.Omega.{arith}
 use lib.ListN.{length}
 use borrow.Author.Rules.{rules}
-use borrow.Author.Tests.{eq_eqb, ne_eqb}
+use borrow.Author.Tests.{eq-eqb, ne_eqb}
 use Rattle.rules.specs.Kinds.{COMMA, COLON}
 use Rattle.cells.specs.Laws.{behind_moves}
 use Rattle.emit.proofs.CellLoops.{Going, loop_starts, loop_turns, loop_ends, loop_moves}
@@ -42,7 +42,7 @@ loop-less c =
     let w = c.before.before.before.before in
     let f = w.before.before.before.before.before.before in
     let l = f.before.before.loop in
-    loop_moves is_comma _ l.q.at w.behind.result refl (eq_eqb _ COMMA (sym f.before.tag_at.ensures ∙ f.if1.true)) w.behind.ensures
+    loop_moves is_comma _ l.q.at w.behind.result refl (eq-eqb _ COMMA (sym f.before.tag_at.ensures ∙ f.if1.true)) w.behind.ensures
 
 loop-again : tie.Need-loop-preserved invariant-loop decreases-loop
 loop-again c =
@@ -51,7 +51,7 @@ loop-again c =
     let s = w.before.before.before in
     let f = s.before.before.before in
     let l = f.before.before.loop in
-    let on = eq_eqb _ COMMA (sym f.before.tag_at.ensures ∙ f.if1.true) in
+    let on = eq-eqb _ COMMA (sym f.before.tag_at.ensures ∙ f.if1.true) in
     let less = loop_moves is_comma _ l.q.at w.behind.result refl on w.behind.ensures in (
       omega (arith, less, l.invariant.0),
       j.jump.auto.0 ∙ s.span.auto.0 ∙ l.invariant.1,

@@ -1,7 +1,7 @@
 -- `emit::sizes::jump_size` meets its contract. Assumes nothing.
 use mathlib.Core.Path.{sym, ◌∙◌}
 use borrow.Author.Rules.{rules}
-use borrow.Author.Tests.{eq_eqb, ne_eqb}
+use borrow.Author.Tests.{eq-eqb, ne_eqb}
 use Rattle.rules.specs.Kinds.{END_IF}
 use Rattle.emit.specs.Sizes.{jump_size}
 use Rattle.emit.proofs.sizes.jump_size.Statement.{statement}
@@ -12,7 +12,7 @@ tag-at-requires c κs = search rules
 
 returns : tie.Need-returns
 unfolding jump_size
-returns c = rw (eq_eqb _ END_IF (sym c.before.tag_at.ensures ∙ c.if1.true))
+returns c = rw (eq-eqb _ END_IF (sym c.before.tag_at.ensures ∙ c.if1.true))
 
 returns-2 : tie.Need-returns-2
 unfolding jump_size

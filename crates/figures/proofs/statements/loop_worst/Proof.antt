@@ -1,6 +1,6 @@
 -- `figures::statements::loop_worst` meets its contract. Assumes nothing.
 use borrow.Author.Rules.{rules}
-use borrow.Author.Tests.{not_true, not-false}
+use borrow.Author.Tests.{not-true, not-false}
 use Rattle.rules.specs.Worst.{for_w}
 use Rattle.ticks.specs.Bounds.{cut}
 use Rattle.figures.specs.Parts.{lit_in}
@@ -10,13 +10,13 @@ use Rattle.figures.proofs.statements.loop_worst.Tie as tie
 
 returns : tie.Need-returns
 unfolding lit_in for_w cut
-returns c = rw (not_true c.before.before.args.first.known c.if1.true)
+returns c = rw (not-true c.before.before.args.first.known c.if1.true)
 
 returns-2 : tie.Need-returns-2
 unfolding lit_in for_w cut
 returns-2 c =
     let start = c.before.before.before.before in
-    rw (not-false start.args.first.known c.before.before.if1.false, not_true start.args.last.known c.if2.true)
+    rw (not-false start.args.first.known c.before.before.if1.false, not-true start.args.last.known c.if2.true)
 
 signed-requires : tie.Need-signed-requires
 signed-requires c κs = search rules

@@ -7,7 +7,7 @@ use lib.IntN.{pos}
 use mir.Syntax.{w32}
 use mir.Val.{to_z, of_z}
 use borrow.Author.Rules.{rules}
-use borrow.Author.Tests.{not_true, not-false}
+use borrow.Author.Tests.{not-true, not-false}
 use Rattle.rules.specs.Limits.{for_limit}
 use Rattle.compare.specs.Advancing.{advance_of}
 use Rattle.variables.specs.Slots.{types_in}
@@ -61,7 +61,7 @@ returns c =
     λ b.
     ap (only _) c.halt.ensures
     ∙ next_bad (types_in s.args.vars.now) s.args.code.now b (view s.args.self) s.args.table.now s.args.l (eight s)
-    (sym c.before.before.may-count.ensures ∙ not_true _ c.before.if1.true)
+    (sym c.before.before.may-count.ensures ∙ not-true _ c.before.if1.true)
 
 mul-advanced : tie.Need-overflow-mul-advanced
 mul-advanced c = omega (arith, (counted c.before).slot)

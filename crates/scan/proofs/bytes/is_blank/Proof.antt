@@ -2,14 +2,14 @@
 use mathlib.Core.Path.{◌≡◌}
 use mathlib.Core.Bool.{◌||◌}
 use lib.Dec.{eqb}
-use borrow.Author.Tests.{eq_eqb, ne_eqb}
+use borrow.Author.Tests.{eq-eqb, ne_eqb}
 use Rattle.rules.specs.Tokens.{is_blank}
 use Rattle.scan.proofs.Either.{or, or_left, or_right}
 use Rattle.scan.proofs.bytes.is_blank.Statement.{statement}
 use Rattle.scan.proofs.bytes.is_blank.Tie as tie
 
 two : (c : tie.Joined1) → c.if1.if2 ≡ (eqb c.before.args.x 32 || eqb c.before.args.x 9)
-two c = or _ (λ w. (eq_eqb _ _ w.0.taken, w.1)) (λ w. (ne_eqb _ _ w.0.left, w.1)) c.if1.branch
+two c = or _ (λ w. (eq-eqb _ _ w.0.taken, w.1)) (λ w. (ne_eqb _ _ w.0.left, w.1)) c.if1.branch
 
 three : (c : tie.Joined2) → c.if2.if3 ≡ (c.before.if1.if2 || eqb c.before.before.args.x 10)
 three c = or _ (λ w. (w.0.taken, w.1)) (λ w. (w.0.left, w.1)) c.if2.branch

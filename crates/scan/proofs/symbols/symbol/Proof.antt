@@ -1,6 +1,6 @@
 -- `scan::symbols::symbol` meets its contract. Assumes nothing.
 use borrow.Author.Rules.{rules}
-use borrow.Author.Tests.{eq_eqb, ne_eqb}
+use borrow.Author.Tests.{eq-eqb, ne_eqb}
 use Rattle.scan.proofs.SymbolAt.{shown-symbol}
 use Rattle.scan.proofs.symbols.symbol.Statement.{statement}
 use Rattle.scan.proofs.symbols.symbol.Tie as tie
@@ -20,7 +20,7 @@ returns-2 c =
     rw (
       shown-symbol,
       ← a.before.of_two.ensures,
-      eq_eqb _ _ a.if1.false,
+      eq-eqb _ _ a.if1.false,
       ← c.before.of_one.ensures,
       ne_eqb _ _ c.if2.true,
     )
@@ -31,9 +31,9 @@ returns-3 c =
     rw (
       shown-symbol,
       ← a.before.of_two.ensures,
-      eq_eqb _ _ a.if1.false,
+      eq-eqb _ _ a.if1.false,
       ← c.before.of_one.ensures,
-      eq_eqb _ _ c.if2.false,
+      eq-eqb _ _ c.if2.false,
     )
 
 pub symbol-spec : {M : Type 1} → statement M

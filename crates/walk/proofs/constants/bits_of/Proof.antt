@@ -1,6 +1,6 @@
 -- `walk::constants::bits_of` meets its contract. Assumes nothing.
 use borrow.Author.Rules.{rules}
-use borrow.Author.Tests.{not_true, not-false}
+use borrow.Author.Tests.{not-true, not-false}
 use Rattle.rules.specs.Bytes.{to_u}
 use Rattle.rules.specs.Walk.{con_value}
 use Rattle.walk.proofs.ConstantValues.{negative-bits}
@@ -9,7 +9,7 @@ use Rattle.walk.proofs.constants.bits_of.Tie as tie
 
 returns : tie.Need-returns
 unfolding to_u con_value
-returns c = rw (not_true c.before.args.below c.if1.true)
+returns c = rw (not-true c.before.args.below c.if1.true)
 
 returns-2 : tie.Need-returns-2
 unfolding to_u con_value

@@ -2,7 +2,7 @@
 use mathlib.Core.Logic.{⊎_elim}
 use native.Mathlib.Omega.{arith}
 use borrow.Author.Rules.{rules}
-use borrow.Author.Tests.{eq_eqb, ne_eqb}
+use borrow.Author.Tests.{eq-eqb, ne_eqb}
 use Rattle.rules.specs.Kinds.{DINT}
 use Rattle.walk.proofs.Moves.{moved-check, moved-write}
 use Rattle.walk.proofs.ReadLabel.{high_moved, label-read}
@@ -42,7 +42,7 @@ returns c =
     let m = l.before.before.before.args.memory.now in (
       omega (arith, l.constant.ensures.0, high_moved h.high-of.ensures, moved-check m _ _ _ _ k₁.check.ensures, moved-check m _ _ _ _ k₂.check2.ensures, moved-write m _ _ w.write.ensures),
       label-read l.constant.ensures.1 h.high-of.ensures
-          (record { integers = _; dints = ⊎_elim (λ a. rw (eq_eqb _ DINT a.0.taken) a.2) (λ a. rw (ne_eqb _ DINT a.0.left) a.1) f.if1.branch; typed = _; typing = k₁.check.ensures; ordered = _; ordering = rw o.in_order.ensures at k₂.check2.ensures; wrote = w.write.ensures }),
+          (record { integers = _; dints = ⊎_elim (λ a. rw (eq-eqb _ DINT a.0.taken) a.2) (λ a. rw (ne_eqb _ DINT a.0.left) a.1) f.if1.branch; typed = _; typing = k₁.check.ensures; ordered = _; ordering = rw o.in_order.ensures at k₂.check2.ensures; wrote = w.write.ensures }),
     )
 
 pub label-spec : {M : Type 1} → statement M

@@ -1,10 +1,10 @@
 -- `walk::expressions::fit` meets its contract. Assumes nothing.
-use borrow.Author.Tests.{eq_eqb, ne_eqb}
+use borrow.Author.Tests.{eq-eqb, ne_eqb}
 use Rattle.walk.proofs.expressions.fit.Statement.{statement}
 use Rattle.walk.proofs.expressions.fit.Tie as tie
 
 returns : tie.Need-returns
-returns c = rw (eq_eqb _ _ c.if1.true)
+returns c = rw (eq-eqb _ _ c.if1.true)
 
 returns-2 : tie.Need-returns-2
 returns-2 c = rw (ne_eqb _ _ c.if1.false)

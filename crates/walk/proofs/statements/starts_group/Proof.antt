@@ -1,12 +1,12 @@
 -- `walk::statements::starts_group` meets its contract. Assumes nothing.
 use borrow.Author.Rules.{rules}
-use borrow.Author.Tests.{eq_eqb, ne_eqb}
+use borrow.Author.Tests.{eq-eqb, ne_eqb}
 use Rattle.rules.specs.Kinds.{COLON}
 use Rattle.walk.proofs.statements.starts_group.Statement.{statement}
 use Rattle.walk.proofs.statements.starts_group.Tie as tie
 
 returns : tie.Need-returns
-returns c = rw (eq_eqb _ COLON c.if1.true)
+returns c = rw (eq-eqb _ COLON c.if1.true)
 
 is-constant-requires : tie.Need-is-constant-requires
 is-constant-requires c κs = search rules
