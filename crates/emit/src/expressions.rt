@@ -9,7 +9,7 @@ use cells::{Cell, behind, cell_at, is_item, tag_at};
 use rules::Kind;
 
 // Where a part of the core program starts or ends, and where its code does.
-#[derive(Drop)]
+#[derive(Clone, Copy)]
 pub(crate) struct Place {
     pub at: usize,
     pub code: u32,

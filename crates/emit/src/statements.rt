@@ -11,7 +11,7 @@ use cells::{Cell, behind, cell_at, is_label, tag_at};
 use rules::Kind;
 
 // What a statement's code needs to know of what is around: where EXIT leads, the enclosing FORs, and how many levels of nesting may still come.
-#[derive(Drop)]
+#[derive(Clone, Copy)]
 pub(crate) struct Around {
     pub exit: u32,
     pub fors: u32,

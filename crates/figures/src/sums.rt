@@ -4,7 +4,7 @@ ghost use Rattle.rules.specs.Worst.{add_w, max_w};
 ghost use Rattle.ticks.specs.Bounds.{bound_of, cut};
 
 // Where a part ends, its depth, and its worst case as `ticks` holds it.
-#[derive(Drop)]
+#[derive(Clone, Copy)]
 pub(crate) struct Figures {
     pub at: usize,
     pub depth: u32,

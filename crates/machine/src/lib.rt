@@ -15,7 +15,7 @@ use codes::{Instruction, Loop, Operator, Prefix};
 use compare::Advance;
 use rules::Limits;
 
-#[derive(Drop)]
+#[derive(Clone, Copy)]
 pub struct Machine {
     pub stack: [i32; Machine::STACK],
     pub height: usize,
@@ -25,7 +25,7 @@ pub struct Machine {
 }
 
 // How a run stands after an instruction.
-#[derive(Drop)]
+#[derive(Clone, Copy)]
 pub enum Stop {
     Going,
     Done,

@@ -5,7 +5,7 @@ ghost use Rattle.rules.specs.Syntax.{take};
 ghost use Rattle.parse.specs.Steps.{next_of, end_of, room_of, Fits, Moves, token_at, skipped, extended, written, refused_at, kind_at};
 ghost use Rattle.parse.specs.Reading.{nothing, Did};
 
-#[derive(Drop)]
+#[derive(Clone, Copy)]
 pub(crate) enum Step {
     // The next token, and the first free number.
     Ok(usize, usize),

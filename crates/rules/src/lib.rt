@@ -23,7 +23,7 @@ pub enum Figured {
 }
 
 // What compiling answers.
-#[derive(Drop)]
+#[derive(Clone, Copy)]
 pub enum Compiled {
     // The bytes of the image and of its code, the depth, and the worst case (Limits::UNBOUNDED is the mark).
     Accepted {

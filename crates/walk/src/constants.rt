@@ -12,7 +12,7 @@ ghost use Rattle.walk.specs.LabelPromises.{HighIs, LabelMeans};
 use super::steps::{Step, check, head, next, skip, tag, write};
 use rules::Kind;
 
-#[derive(Drop)]
+#[derive(Clone, Copy)]
 pub(crate) struct Literal {
     pub step: Step,
     // Its first byte, its type, and its value.

@@ -20,7 +20,7 @@ pub(crate) struct Inside {
 }
 
 // An expression: the step behind the cell that closes it, its first byte, its type, and its height.
-#[derive(Drop)]
+#[derive(Clone, Copy)]
 pub(crate) struct Value {
     pub step: Step,
     pub first: u32,

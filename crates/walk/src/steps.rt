@@ -3,7 +3,7 @@ ghost use Rattle.std.specs.Prelude.{◌≡◌, ◌+◌, leb, length, get_or};
 ghost use Rattle.rules.specs.Cells.{cell};
 ghost use Rattle.walk.specs.Steps.{kept, cell_at, tag_at, skipped, refused_at, checked, extended, written};
 
-#[derive(Drop)]
+#[derive(Clone, Copy)]
 pub(crate) enum Step {
     // The next number of the tree, and the first free number of the core program.
     Ok(usize, usize),
