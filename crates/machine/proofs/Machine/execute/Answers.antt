@@ -1,0 +1,112 @@
+use mathlib.Core.Path.{◌≡◌, refl, sym, ap, ◌∙◌}
+use mir.Syntax.{w32}
+use mir.Val.{to_z, of_z}
+use borrow.Author.Rules.{rules}
+use Rattle.rules.specs.Codes.{Instr, CONST, length_of}
+use Rattle.codes.specs.Table.{instr_of}
+use Rattle.machine.specs.Stepping.{After, only, Ready}
+use Rattle.machine.proofs.Moves.{halts, bad}
+use Rattle.codes.specs.declared.Instruction.{Instruction}
+use Rattle.machine.proofs.Machine.execute.Goals as goal
+
+-- the instruction that the code matched is the one whose length the machine is ready for
+ready : (c : tie.Start) {i : Instruction} → c.args.i ≡ i → Ready (length_of (instr_of i)) c.args.self
+ready c e = rw e at c.requires
+
+arm : (c : tie.Start) {a : After} {i : Instr} → Done-by c a i → instr_of c.args.i ≡ i → Done-by c a (instr_of c.args.i)
+arm c p q = rw q p
+
+pub tick-requires : goal.tick-requires
+tick-requires c = ready c c.in-Tick.is
+
+pub constant-requires : goal.constant-requires
+constant-requires c = ready c c.in-Const.is
+
+pub load-requires : goal.load-requires
+load-requires c = ready c c.in-Load.is
+
+pub store-requires : goal.store-requires
+store-requires c = ready c c.in-Store.is
+
+pub unary-requires : goal.unary-requires
+unary-requires c = ready c c.in-Unary.is
+
+pub binary-requires : goal.binary-requires
+binary-requires c = ready c c.in-Binary.is
+
+pub branch-self-requires : goal.branch-self-requires
+branch-self-requires c = ready c c.in-JumpZero.is
+
+pub branch-self-requires-in-JumpNot : goal.branch-self-requires-in-JumpNot
+branch-self-requires-in-JumpNot c = ready c c.in-JumpNot.is
+
+pub span-requires : goal.span-requires
+span-requires c = ready c c.in-Span.is
+
+pub discard-requires : goal.discard-requires
+discard-requires c = ready c c.in-Drop.is
+
+pub keep-requires : goal.keep-requires
+keep-requires c = ready c c.in-Hold.is
+
+pub first-requires : goal.first-requires
+first-requires c = ready c c.in-First.is
+
+pub next-requires : goal.next-requires
+next-requires c = ready c c.in-Next.is
+
+pub returns-in-Bad : goal.returns-in-Bad
+returns-in-Bad c = arm c (ap (only _) c.halt.ensures ∙ bad _ _ _ _ _) (ap instr_of c.in-Bad.is)
+
+pub returns-in-Tick : goal.returns-in-Tick
+returns-in-Tick c = arm c (c.tick.ensures _ _ _) (ap instr_of c.in-Tick.is)
+
+pub returns-in-Const : goal.returns-in-Const
+returns-in-Const c =
+    let z = c.in-Const.v in
+    let v : to_z w32 (of_z w32 z) ≡ z = search rules in
+    arm c (c.constant.ensures _ _ _ _) (ap instr_of c.in-Const.is ∙ ap CONST (sym v))
+
+pub returns-in-Load : goal.returns-in-Load
+returns-in-Load c = arm c (c.load.ensures _ _ _) (ap instr_of c.in-Load.is)
+
+pub returns-in-Store : goal.returns-in-Store
+returns-in-Store c = arm c (c.store.ensures _ _) (ap instr_of c.in-Store.is)
+
+pub returns-in-Unary : goal.returns-in-Unary
+returns-in-Unary c = arm c (c.unary.ensures _ _ _ _) (ap instr_of c.in-Unary.is)
+
+pub returns-in-Binary : goal.returns-in-Binary
+returns-in-Binary c = arm c (c.binary.ensures _ _ _ _) (ap instr_of c.in-Binary.is)
+
+pub returns-in-Jump : goal.returns-in-Jump
+returns-in-Jump c = arm c (c.jump.ensures _ _ _) (ap instr_of c.in-Jump.is)
+
+pub returns-in-JumpZero : goal.returns-in-JumpZero
+returns-in-JumpZero c = arm c (c.branch-self.ensures _ _ _) (ap instr_of c.in-JumpZero.is)
+
+pub returns-in-JumpNot : goal.returns-in-JumpNot
+returns-in-JumpNot c = arm c (c.branch-self-in-JumpNot.ensures _ _ _) (ap instr_of c.in-JumpNot.is)
+
+pub returns-in-Span : goal.returns-in-Span
+returns-in-Span c =
+    let x = c.in-Span.lowest in
+    let y = c.in-Span.highest in
+    let v : to_z w32 (of_z w32 x) ≡ x = search rules in
+    let w : to_z w32 (of_z w32 y) ≡ y = search rules in
+    arm c (c.span.ensures _ _ _ _) (ap instr_of c.in-Span.is ∙ rw (v, w) refl)
+
+pub returns-in-Drop : goal.returns-in-Drop
+returns-in-Drop c = arm c (c.discard.ensures _ _ _ _) (ap instr_of c.in-Drop.is)
+
+pub returns-in-Hold : goal.returns-in-Hold
+returns-in-Hold c = arm c (c.keep.ensures _ _ _ _) (ap instr_of c.in-Hold.is)
+
+pub returns-in-First : goal.returns-in-First
+returns-in-First c = arm c (c.first.ensures _) (ap instr_of c.in-First.is)
+
+pub returns-in-Next : goal.returns-in-Next
+returns-in-Next c = arm c (c.next.ensures _) (ap instr_of c.in-Next.is)
+
+pub returns-in-Halt : goal.returns-in-Halt
+returns-in-Halt c = arm c (ap (only _) c.halt-in-Halt.ensures ∙ halts _ _ _ _ _) (ap instr_of c.in-Halt.is)

@@ -1,0 +1,21 @@
+use mathlib.Core.Path.{ap, ◌∙◌}
+use Prim.Native.Nat.{◌+◌}
+use lib.IntN.{ℤ}
+use mir.Facts.{to_z-of_z}
+use borrow.Author.Rules.{sfits_of}
+use Rattle.rules.specs.Limits.{stack_limit}
+use Rattle.rules.specs.Machine.{push, code_in}
+use Rattle.machine.specs.Stepping.{view, only, after}
+use Rattle.machine.proofs.Moves.{load_on, load_out}
+use Rattle.machine.proofs.Machine.load.Goals as goal
+
+pub returns-then-slot-table : goal.returns-then-slot-table
+returns-then-slot-table c =
+    let m = c.args.self in
+    λ Γ code b.
+    c.put.ensures Γ code b _
+    ∙ ap (λ (z : ℤ). after b (view m) c.args.table.now (push (code_in Γ code stack_limit) z (m.at + 2) (view m).stack m.held c.args.table.now)) (to_z-of_z (sfits_of c.put-arg-1.given))
+    ∙ load_on Γ code b (view m) _ _ c.if-slot-table.true
+
+pub returns-else-slot-table : goal.returns-else-slot-table
+returns-else-slot-table c = λ Γ code b. ap (only _) c.halt.ensures ∙ load_out Γ code b (view c.args.self) _ _ c.if-slot-table.false

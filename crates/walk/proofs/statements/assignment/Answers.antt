@@ -1,0 +1,8 @@
+use Rattle.walk.proofs.Assignments.{assignment-does}
+use Rattle.walk.proofs.statements.assignment.Goals as goal
+
+pub returns : goal.returns
+returns c =
+    let a = c.args in
+    assignment-does a.text.now a.count a.taken.now a.memory.now a.s c.assigned-name.result c.assigned-name.ensures
+    c.write-written.ensures c.valued.ensures
