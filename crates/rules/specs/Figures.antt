@@ -1,15 +1,14 @@
 -- The worked figures of the rules, from the text's bytes: one statement over one list. Those that the rules star are said of the
 -- meaning itself and of running the image.
-use Rattle.std.specs.Prelude.{◌≡◌, refl, List, [], ◌∷◌, map, ℤ, pos, negsuc}
+use Rattle.std.specs.Prelude.{List, [], ◌∷◌, ℤ, pos, negsuc}
 use Rattle.rules.specs.Base.{bytes}
 use Rattle.rules.specs.Compile.{accepted, refused}
-use Rattle.rules.specs.Opened.{opened}
-use Rattle.rules.specs.Cases.{Case, found, compiling, meaning, report, listing, over_a}
+use Rattle.rules.specs.Cases.{Case, compiling, meaning, report, listing, over_a}
 
 abbrev lowest : ℤ
 lowest = negsuc 2147483647
 
-figures : List Case
+unfoldable pub figures : List Case
 figures =
     -- the listing
     compiling (bytes "PROGRAM P VAR A:DINT; END_VAR A:=A+1; END_PROGRAM")
@@ -46,7 +45,3 @@ figures =
     -- CASE: the first group with a label that holds the selector
     meaning (over_a "CASE 3 OF 1..5: A := 1; 3: A := 2; END_CASE;") (pos 0 ∷ []) 0 2 (pos 1 ∷ []) ∷
     []
-
-all_figures : map found figures ≡ map (λ c. c.want) figures
-unfolding opened figures
-all_figures = refl

@@ -1,10 +1,9 @@
 -- Sentences of the rules, each by a text or image whose answer was worked out by hand: every number of the list, and each limit from both sides.
-use Rattle.std.specs.Prelude.{◌≡◌, refl, List, [], ◌∷◌, ◌++◌, map, ℕ, zero, suc, ◌+◌, ◌/◌, ◌%◌, pos, negsuc, replicate}
+use Rattle.std.specs.Prelude.{List, [], ◌∷◌, ◌++◌, ℕ, zero, suc, ◌+◌, ◌/◌, ◌%◌, pos, negsuc, replicate}
 use Prim.Native.String.{String}
 use Rattle.rules.specs.Base.{bytes}
 use Rattle.rules.specs.Compile.{accepted, refused}
-use Rattle.rules.specs.Opened.{opened}
-use Rattle.rules.specs.Cases.{Case, found, compiling, compiling_in, compiling_with, meaning_at, meaning, report, image, filling, over_a}
+use Rattle.rules.specs.Cases.{Case, compiling, compiling_in, compiling_with, meaning_at, meaning, report, image, filling, over_a}
 
 -- statements over A, a DINT, and X, a BOOL
 abbrev over_ax : String → List ℕ
@@ -50,7 +49,7 @@ around a e b = bytes "PROGRAM P VAR A:DINT; END_VAR " ++ (bytes a ++ (e ++ (byte
 
 -- Each limit from both sides
 
-length_cases : List Case
+unfoldable pub length_cases : List Case
 length_cases =
     -- 17, before 1; the published length is enough
     compiling_with (bytes "PROGRAM P END_PROGRAM;") 262143 (refused 17 0) ∷
@@ -61,7 +60,7 @@ length_cases =
     compiling (times 16384 (bytes " ")) (refused 5 16384) ∷
     []
 
-nesting_cases : List Case
+unfoldable pub nesting_cases : List Case
 nesting_cases =
     -- the 65th variable
     compiling (over 65) (refused 9 590) ∷
@@ -77,7 +76,7 @@ nesting_cases =
     compiling (around "FOR A:=1 TO " (high "1+1") " DO END_FOR;") (refused 10 42) ∷
     []
 
-code_limit_cases : List Case
+unfoldable pub code_limit_cases : List Case
 code_limit_cases =
     -- 8,192 bytes of code pass 13 and come to 14; one more is 13, before 14
     compiling_in (labelled 680 "A:=1;") 0 (refused 14 1432) ∷
@@ -88,7 +87,7 @@ code_limit_cases =
     (accepted (coded 12 (0x01 ∷ 0x03 ∷ 0x00 ∷ 0x02 ∷ 0x01 ∷ 0x00 ∷ 0x00 ∷ 0x00 ∷ 0x0A ∷ 0x04 ∷ 0x00 ∷ 0x1D ∷ []) 0x02 (0x01 ∷ 0x00 ∷ 0x00 ∷ 0x00 ∷ [])) 12 2 1) ∷
     []
 
-token_cases : List Case
+unfoldable pub token_cases : List Case
 token_cases =
     -- `(*)` only opens; `/*` is 2; a single dot is no token
     compiling (bytes "(*)") (refused 2 0) ∷
@@ -110,7 +109,7 @@ token_cases =
     meaning (bytes "program (* a (* b *) c *) p var a:dint; end_var // x\n A\t:=\ra +\u{c}1; End_Program") (pos 5 ∷ []) 0 1 (pos 6 ∷ []) ∷
     []
 
-syntax_cases : List Case
+unfoldable pub syntax_cases : List Case
 syntax_cases =
     compiling (over_a "A := ;") (refused 5 35) ∷
     compiling (over_a "CASE A OF ELSE END_CASE;") (refused 5 40) ∷
@@ -126,7 +125,7 @@ syntax_cases =
     compiling (over_ax "X := NOT A = A;") (refused 8 43) ∷
     []
 
-walk_cases : List Case
+unfoldable pub walk_cases : List Case
 walk_cases =
     compiling (bytes "PROGRAM P VAR A:DINT; a:BOOL; END_VAR END_PROGRAM") (refused 6 22) ∷
     compiling (over_a "B := 1;") (refused 7 30) ∷
@@ -144,7 +143,7 @@ walk_cases =
     compiling (over_a "FOR A := -2147483648 TO 0 DO END_FOR;") (refused 4 40) ∷
     []
 
-meaning_cases : List Case
+unfoldable pub meaning_cases : List Case
 meaning_cases =
     -- FOR evaluates the final value before it sets the variable, and holds it
     meaning (over_a "A := 3; FOR A := 1 TO A DO END_FOR;") (pos 0 ∷ []) 0 5 (pos 3 ∷ []) ∷
@@ -165,7 +164,7 @@ meaning_cases =
     meaning (over_ax "X := A <> 7 XOR A >= 7;") (pos 7 ∷ pos 0 ∷ []) 0 1 (pos 7 ∷ pos 1 ∷ []) ∷
     []
 
-code_cases : List Case
+unfoldable pub code_cases : List Case
 code_cases =
     -- an empty ELSE still has its JUMP
     compiling (over_a "IF TRUE THEN ELSE END_IF;")
@@ -181,7 +180,7 @@ code_cases =
     (accepted (coded 13 (0x01 ∷ 0x02 ∷ 0x00 ∷ 0x00 ∷ 0x00 ∷ 0x00 ∷ 0x16 ∷ 0x0C ∷ 0x00 ∷ 0x15 ∷ 0x00 ∷ 0x00 ∷ 0x1D ∷ []) 0x01 (0xFF ∷ 0xFF ∷ 0xFF ∷ 0xFF ∷ [])) 13 1 4294967295) ∷
     []
 
-machine_cases : List Case
+unfoldable pub machine_cases : List Case
 machine_cases =
     -- HALT counts; SPENT is at the TICK, which does not
     image (code 1 (0x1D ∷ [])) (pos 7 ∷ []) 9 (report 0 0 1 0 (pos 7 ∷ [])) ∷
@@ -216,21 +215,5 @@ machine_cases =
     filling (halting 1 0x01) [] 24 [] ∷
     []
 
-sentences : List Case
+unfoldable pub sentences : List Case
 sentences = token_cases ++ (syntax_cases ++ (walk_cases ++ (meaning_cases ++ (code_cases ++ machine_cases))))
-
-all_sentences : map found sentences ≡ map (λ c. c.want) sentences
-unfolding opened sentences token_cases syntax_cases walk_cases meaning_cases code_cases machine_cases
-all_sentences = refl
-
-all_length : map found length_cases ≡ map (λ c. c.want) length_cases
-unfolding opened length_cases
-all_length = refl
-
-all_nesting : map found nesting_cases ≡ map (λ c. c.want) nesting_cases
-unfolding opened nesting_cases
-all_nesting = refl
-
-all_code_limit : map found code_limit_cases ≡ map (λ c. c.want) code_limit_cases
-unfolding opened code_limit_cases
-all_code_limit = refl
