@@ -3,7 +3,6 @@ use mathlib.Core.List.{List}
 use Prim.Native.Nat.{ℕ}
 use native.Mathlib.Omega.{arith}
 use Rattle.rules.specs.Codes.{readers, decode_op}
-use Rattle.codes.proofs.Keys.{past}
 use Rattle.codes.proofs.operator_of.Goals as goal
 
 -- what a code reads is computed from its key
@@ -65,5 +64,5 @@ returns-in-19 c = is c.in-19.is
 pub returns-in_default : goal.returns-in_default
 unfolding decode_op readers
 returns-in_default c =
-    let last : c.args.code ≡ 20 = omega (arith, past _ _ 7 13 c.in_default.in_default-own.rest c.requires.0) in
+    let last : c.args.code ≡ 20 = omega arith in
     is last

@@ -1,5 +1,6 @@
 -- `codes::read` meets its contract: an arm rewrites with its key, then with its operands.
 use mathlib.Core.Path.{◌≡◌, sym, ◌∙◌}
+use Prim.Native.Nat.{◌≤◌}
 use native.Mathlib.Omega.{arith}
 use lib.ListN.{get_or-eq_default}
 use mir.Syntax.{w32}
@@ -7,7 +8,6 @@ use mir.Facts.{to_z-of_z}
 use borrow.Author.Rules.{sfits_of}
 use Rattle.rules.specs.Codes.{SPAN, FIRST, NEXT, BAD, readers, decode_op}
 use Rattle.codes.proofs.Bytes.{get1_at, get2_at, get4_at, pair_at, loop_at}
-use Rattle.codes.proofs.Keys.{past, earlier}
 use Rattle.codes.proofs.read.Goals as goal
 
 pub value-requires : goal.value-requires
@@ -44,7 +44,7 @@ pub counted-requires-in-28 : goal.counted-requires-in-28
 counted-requires-in-28 c = rw c.in-28.is at c.requires
 
 pub operator_of-requires : goal.operator_of-requires
-operator_of-requires c = (past _ _ 1 6 (earlier _ _ 21 9 c.in_default-1.rest) c.if-code-lt1.false, c.in-7-to-20.if-code-lt21-own.true)
+operator_of-requires c = (omega arith, omega arith)
 
 pub returns-in-1 : goal.returns-in-1
 unfolding decode_op readers
@@ -124,4 +124,6 @@ returns-in_default c = let e : c.args.code ≡ 0 = omega arith in rw e
 
 pub returns-in_default-2 : goal.returns-in_default-2
 unfolding decode_op readers
-returns-in_default-2 c = rw (get_or-eq_default readers (λ r. BAD) (past _ _ 21 9 c.in_default-1.rest c.in_default.if-code-lt21-own.false))
+returns-in_default-2 c =
+    let past : 30 ≤ c.args.code = omega arith in
+    rw (get_or-eq_default readers (λ r. BAD) past)

@@ -1,9 +1,11 @@
 use mathlib.Core.Path.{◌≡◌, refl, sym, ◌∙◌}
-use Prim.Native.Nat.{◌-◌, ◌<◌}
+use Prim.Native.Nat.{◌≤◌, ◌<◌}
 use native.Mathlib.Omega.{arith}
 use borrow.Author.Rules.{rules}
+use Rattle.rules.specs.Limits.{stack_limit}
 use Rattle.rules.specs.Machine.{code_in, step}
 use Rattle.machine.specs.Stepping.{view, move, only, after}
+use Rattle.machine.proofs.Stack.{down_length}
 use Rattle.machine.proofs.Moves.{step_within}
 use Rattle.run.proofs.Progress.{seen, at, Better, better, over, goes, begins, reports, few, at_most_one}
 use Rattle.run.proofs.carry_out.Goals as goal
@@ -18,28 +20,32 @@ overflow_add-count c =
     omega (arith, counted)
 
 pub loop-stop-smaller : goal.loop-stop-smaller
+unfolding code_in
 loop-stop-smaller c =
-    let stepped-is : let l = c.loop-stop in
+    let l = c.loop-stop in
     let g = seen c.args.vars.now c.args.code.now in
-    only c.step-s.new.1.1.1.0 (move c.step-s.result) ≡ after c.args.budget (view l.m) l.table (step g (at (view l.m) l.table)) = c.step-s.ensures ∙ step_within _ _ _ _ _ low in
-    let nearer : let l = c.loop-stop in
-    let r = c.step-s in
-    Better (seen c.args.vars.now c.args.code.now) c.args.budget (view l.m) l.table (only r.new.1.1.1.0 (move r.result)) = let i = c.loop-stop.invariant.0 in
-    better (seen c.args.vars.now c.args.code.now) c.args.budget _ _ i.stack i.ticks
-    stepped-is (sym c.goes_on.ensures ∙ c.if-goes_on.true) in
+    -- the machine's stack is within the limit
+    let low : l.m.height ≤ stack_limit = omega (arith, down_length l.m.stack l.m.height, l.invariant.0.stack) in
+    -- the machine's step is the rules'
+    let stepped-is : only c.step-s.new.table (move c.step-s.result) ≡ after c.args.budget (view l.m) l.table (step g (at (view l.m) l.table)) = c.step-s.ensures ∙ step_within _ _ _ _ _ low in
+    let i = l.invariant.0 in
+    let nearer : Better g c.args.budget (view l.m) l.table (only c.step-s.new.table (move c.step-s.result)) =
+    better g c.args.budget _ _ i.stack i.ticks stepped-is (sym c.goes_on.ensures ∙ c.if-goes_on.true) in
     nearer.less
 
 pub loop-stop-preserved : goal.loop-stop-preserved
+unfolding code_in
 loop-stop-preserved c =
-    let stepped-is : let l = c.loop-stop in
+    let l = c.loop-stop in
     let g = seen c.args.vars.now c.args.code.now in
-    only c.step-s.new.1.1.1.0 (move c.step-s.result) ≡ after c.args.budget (view l.m) l.table (step g (at (view l.m) l.table)) = c.step-s.ensures ∙ step_within _ _ _ _ _ low in
-    let nearer : let l = c.loop-stop in
-    let r = c.step-s in
-    Better (seen c.args.vars.now c.args.code.now) c.args.budget (view l.m) l.table (only r.new.1.1.1.0 (move r.result)) = let i = c.loop-stop.invariant.0 in
-    better (seen c.args.vars.now c.args.code.now) c.args.budget _ _ i.stack i.ticks
-    stepped-is (sym c.goes_on.ensures ∙ c.if-goes_on.true) in
-    (goes (seen c.args.vars.now c.args.code.now) c.args.budget _ _ _ _ c.loop-stop.invariant.0 nearer, search rules)
+    -- the machine's stack is within the limit
+    let low : l.m.height ≤ stack_limit = omega (arith, down_length l.m.stack l.m.height, l.invariant.0.stack) in
+    -- the machine's step is the rules'
+    let stepped-is : only c.step-s.new.table (move c.step-s.result) ≡ after c.args.budget (view l.m) l.table (step g (at (view l.m) l.table)) = c.step-s.ensures ∙ step_within _ _ _ _ _ low in
+    let i = l.invariant.0 in
+    let nearer : Better g c.args.budget (view l.m) l.table (only c.step-s.new.table (move c.step-s.result)) =
+    better g c.args.budget _ _ i.stack i.ticks stepped-is (sym c.goes_on.ensures ∙ c.if-goes_on.true) in
+    (goes g c.args.budget _ _ _ _ i nearer, search rules)
 
 pub overflow_add-result : goal.overflow_add-result
 unfolding code_in
@@ -48,13 +54,15 @@ overflow_add-result c =
     omega (arith, counted, at_most_one c.step-s.result.stop, c.last_counts.ensures)
 
 pub returns-else-goes_on : goal.returns-else-goes_on
+unfolding code_in
 returns-else-goes_on c =
-    let stepped-is : let l = c.loop-stop in
+    let l = c.loop-stop in
     let g = seen c.args.vars.now c.args.code.now in
-    only c.step-s.new.1.1.1.0 (move c.step-s.result) ≡ after c.args.budget (view l.m) l.table (step g (at (view l.m) l.table)) = c.step-s.ensures ∙ step_within _ _ _ _ _ low in
-    let i = c.loop-stop.invariant.0 in
-    let r = c.step-s in
-    let g = seen c.args.vars.now c.args.code.now in
+    -- the machine's stack is within the limit
+    let low : l.m.height ≤ stack_limit = omega (arith, down_length l.m.stack l.m.height, l.invariant.0.stack) in
+    -- the machine's step is the rules'
+    let stepped-is : only c.step-s.new.table (move c.step-s.result) ≡ after c.args.budget (view l.m) l.table (step g (at (view l.m) l.table)) = c.step-s.ensures ∙ step_within _ _ _ _ _ low in
+    let i = l.invariant.0 in
     let o = over g c.args.budget _ _ i.stack i.ticks stepped-is (sym c.goes_on.ensures ∙ c.if-goes_on.false) in
-    reports g c.args.budget c.args.table.now c.loop-stop.count (only r.new.1.1.1.0 (move r.result))
+    reports g c.args.budget c.args.table.now l.count (only c.step-s.new.table (move c.step-s.result))
     o.ticks (sym (o.same _) ∙ i.same) (rw (c.outcome_of.ensures, c.last_counts.ensures) refl)

@@ -1,11 +1,10 @@
 use mathlib.Core.Path.{◌≡◌, refl, sym, ap, ◌∙◌}
-use Prim.Native.Nat.{◌-◌}
 use native.Mathlib.Omega.{arith}
 use lib.ListN.{get_or}
 use lib.IntN.{pos}
-use mir.Facts.{to_z-of_z}
-use borrow.Author.Rules.{sfits_of}
-use borrow.Author.Tests.{not-true, not-false}
+use mir.Syntax.{w32}
+use mir.Val.{to_z, of_z}
+use borrow.Author.Rules.{rules}
 use Rattle.rules.specs.Numbers.{dint, holds}
 use Rattle.variables.specs.Slots.{types_in}
 use Rattle.run.proofs.Tables.{valid_off, valid_is, hold_on, hold_off, hold_end}
@@ -19,19 +18,21 @@ loop-k-init c = (omega arith, c.if-table-count.false ∙ c.count.ensures, refl)
 
 pub returns-then-not-may_hold : goal.returns-then-not-may_hold
 returns-then-not-may_hold c =
-    let held : let k = c.loop-k.k in
-    holds (get_or (types_in c.args.vars.now) k dint) (get_or c.args.table.now k (pos 0)) ≡ c.may_hold.result = let k = c.loop-k.k in
-    sym (c.may_hold.ensures ∙ ap (holds (get_or (types_in c.args.vars.now) k dint)) (to_z-of_z (sfits_of c.may_hold-arg-1.given))) in
+    let k = c.loop-k.k in
     let i = c.loop-k.invariant in
-    valid_is _ _ i.1 (sym (i.2 ∙ hold_off _ _ _ i.1 c.loop-k-test.true (held ∙ not-true _ c.if-not-may_hold.true)))
+    let z = get_or c.args.table.now k (pos 0) in
+    let w : to_z w32 (of_z w32 z) ≡ z = search rules in
+    let held : holds (get_or (types_in c.args.vars.now) k dint) z ≡ c.may_hold.result = sym (c.may_hold.ensures ∙ ap (holds (get_or (types_in c.args.vars.now) k dint)) w) in
+    valid_is _ _ i.1 (sym (i.2 ∙ hold_off _ _ _ i.1 c.loop-k-test.true (held ∙ c.if-not-may_hold.true)))
 
 pub loop-k-preserved : goal.loop-k-preserved
 loop-k-preserved c =
-    let held : let k = c.loop-k.k in
-    holds (get_or (types_in c.args.vars.now) k dint) (get_or c.args.table.now k (pos 0)) ≡ c.may_hold.result = let k = c.loop-k.k in
-    sym (c.may_hold.ensures ∙ ap (holds (get_or (types_in c.args.vars.now) k dint)) (to_z-of_z (sfits_of c.may_hold-arg-1.given))) in
+    let k = c.loop-k.k in
     let i = c.loop-k.invariant in
-    (omega arith, i.1, i.2 ∙ hold_on _ _ _ i.1 c.loop-k-test.true (held ∙ not-false _ c.if-not-may_hold.false))
+    let z = get_or c.args.table.now k (pos 0) in
+    let w : to_z w32 (of_z w32 z) ≡ z = search rules in
+    let held : holds (get_or (types_in c.args.vars.now) k dint) z ≡ c.may_hold.result = sym (c.may_hold.ensures ∙ ap (holds (get_or (types_in c.args.vars.now) k dint)) w) in
+    (omega arith, i.1, i.2 ∙ hold_on _ _ _ i.1 c.loop-k-test.true (held ∙ c.if-not-may_hold.false))
 
 pub returns : goal.returns
 returns c =

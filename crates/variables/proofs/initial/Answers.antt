@@ -1,5 +1,6 @@
 use mathlib.Core.Path.{◌∙◌}
 use native.Mathlib.Omega.{arith}
+use mir.Syntax.{w32}
 use mir.Facts.{to_z-of_z}
 use borrow.Author.Rules.{sfits_of}
 use Rattle.variables.proofs.Values.{vars-length, value_in, value_out}
@@ -34,7 +35,7 @@ bounds-vars-i-then-slot-count-3 c = omega (arith, vars-length c.args.vars.now)
 
 pub returns-then-slot-count : goal.returns-then-slot-count
 returns-then-slot-count c =
-    to_z-of_z (sfits_of c.value_of.type_inv) ∙
+    to_z-of_z {w = w32} (sfits_of c.value_of.type_inv) ∙
     (c.value_of.ensures ∙ value_in c.args.vars.now c.args.slot (omega (arith, vars-length c.args.vars.now)))
 
 pub returns : goal.returns

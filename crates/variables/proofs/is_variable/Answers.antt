@@ -1,4 +1,5 @@
 use mathlib.Core.Path.{sym, ap, ◌∙◌}
+use native.Mathlib.Omega.{arith}
 use mir.Facts.{to_z-of_z}
 use Rattle.rules.specs.Numbers.{holds, low, high}
 use Rattle.rules.specs.Image.{type_in}
@@ -14,4 +15,4 @@ unfolding type_in
 returns-in-2 c = sym (dint-holds c.args.value c.ranges.value) ∙ a_variable c.args.value (ap type_in c.in-2.is)
 
 pub returns-in_default : goal.returns-in_default
-returns-in_default c = no_variable c.args.kind c.args.value c.in_default.in_default-own.rest.0.1 c.in_default.in_default-own.rest.1
+returns-in_default c = no_variable c.args.kind c.args.value (omega arith) (omega arith)

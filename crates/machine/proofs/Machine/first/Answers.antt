@@ -6,7 +6,6 @@ use lib.IntN.{pos}
 use mir.Syntax.{w32}
 use mir.Val.{to_z, of_z}
 use borrow.Author.Rules.{rules}
-use borrow.Author.Tests.{not-true, not-false}
 use Rattle.rules.specs.Limits.{for_limit}
 use Rattle.rules.specs.Meaning.{passes}
 use Rattle.variables.specs.Slots.{types_in}
@@ -21,33 +20,33 @@ returns-then-not-may_count c =
     λ b.
     ap (only _) c.halt.ensures
     ∙ first_bad (types_in c.args.vars.now) c.args.code.now b (view c.args.self) c.args.table.now c.args.l eight
-    (sym c.may_count.ensures ∙ not-true _ c.if-not-may_count.true)
+    (sym c.may_count.ensures ∙ c.if-not-may_count.true)
 
 pub offset_bounds-table-slot : goal.offset_bounds-table-slot
 offset_bounds-table-slot c =
-    let counted : Allowed (types_in c.args.vars.now) c.args.table.now c.args.l.level c.args.l.slot c.args.l.step = allowed _ _ _ _ _ asked in
+    let counted : Allowed (types_in c.args.vars.now) c.args.table.now c.args.l.level c.args.l.slot c.args.l.step = allowed _ _ _ _ _ (sym c.may_count.ensures ∙ c.if-not-may_count.false) in
     omega (arith, counted.slot)
 
 pub bounds-table-slot : goal.bounds-table-slot
 bounds-table-slot c =
-    let counted : Allowed (types_in c.args.vars.now) c.args.table.now c.args.l.level c.args.l.slot c.args.l.step = allowed _ _ _ _ _ asked in
+    let counted : Allowed (types_in c.args.vars.now) c.args.table.now c.args.l.level c.args.l.slot c.args.l.step = allowed _ _ _ _ _ (sym c.may_count.ensures ∙ c.if-not-may_count.false) in
     omega (arith, counted.slot)
 
 pub offset_bounds-held-level : goal.offset_bounds-held-level
 offset_bounds-held-level c =
-    let counted : Allowed (types_in c.args.vars.now) c.args.table.now c.args.l.level c.args.l.slot c.args.l.step = allowed _ _ _ _ _ asked in
+    let counted : Allowed (types_in c.args.vars.now) c.args.table.now c.args.l.level c.args.l.slot c.args.l.step = allowed _ _ _ _ _ (sym c.may_count.ensures ∙ c.if-not-may_count.false) in
     omega (arith, counted.level)
 
 pub bounds-held-level : goal.bounds-held-level
 bounds-held-level c =
     let eight : length c.args.self.held ≡ for_limit = search rules in
-    let counted : Allowed (types_in c.args.vars.now) c.args.table.now c.args.l.level c.args.l.slot c.args.l.step = allowed _ _ _ _ _ asked in
+    let counted : Allowed (types_in c.args.vars.now) c.args.table.now c.args.l.level c.args.l.slot c.args.l.step = allowed _ _ _ _ _ (sym c.may_count.ensures ∙ c.if-not-may_count.false) in
     omega (arith, counted.level, eight)
 
 pub returns-then-passes : goal.returns-then-passes
 returns-then-passes c =
     let eight : length c.args.self.held ≡ for_limit = search rules in
-    let asked : may_count (types_in c.args.vars.now) c.args.table.now c.args.l.level c.args.l.slot c.args.l.step ≡ true = sym c.may_count.ensures ∙ not-false _ c.if-not-may_count.false in
+    let asked : may_count (types_in c.args.vars.now) c.args.table.now c.args.l.level c.args.l.slot c.args.l.step ≡ true = sym c.may_count.ensures ∙ c.if-not-may_count.false in
     let tested : passes c.args.l.step (get_or c.args.table.now c.args.l.slot (pos 0)) (get_or c.args.self.held c.args.l.level (pos 0)) ≡ c.passes.result = let v = get_or c.args.table.now c.args.l.slot (pos 0) in
     let h = get_or c.args.self.held c.args.l.level (pos 0) in
     let x : to_z w32 (of_z w32 v) ≡ v = search rules in
@@ -62,7 +61,7 @@ returns-then-passes c =
 pub returns-else-passes : goal.returns-else-passes
 returns-else-passes c =
     let eight : length c.args.self.held ≡ for_limit = search rules in
-    let asked : may_count (types_in c.args.vars.now) c.args.table.now c.args.l.level c.args.l.slot c.args.l.step ≡ true = sym c.may_count.ensures ∙ not-false _ c.if-not-may_count.false in
+    let asked : may_count (types_in c.args.vars.now) c.args.table.now c.args.l.level c.args.l.slot c.args.l.step ≡ true = sym c.may_count.ensures ∙ c.if-not-may_count.false in
     let tested : passes c.args.l.step (get_or c.args.table.now c.args.l.slot (pos 0)) (get_or c.args.self.held c.args.l.level (pos 0)) ≡ c.passes.result = let v = get_or c.args.table.now c.args.l.slot (pos 0) in
     let h = get_or c.args.self.held c.args.l.level (pos 0) in
     let x : to_z w32 (of_z w32 v) ≡ v = search rules in

@@ -6,7 +6,6 @@ use lib.IntN.{pos}
 use mir.Syntax.{w32}
 use mir.Val.{to_z, of_z}
 use borrow.Author.Rules.{rules}
-use borrow.Author.Tests.{not-true, not-false}
 use Rattle.rules.specs.Limits.{for_limit}
 use Rattle.compare.specs.Advancing.{advance_of}
 use Rattle.variables.specs.Slots.{types_in}
@@ -22,33 +21,33 @@ returns-then-not-may_count c =
     λ b.
     ap (only _) c.halt.ensures
     ∙ next_bad (types_in c.args.vars.now) c.args.code.now b (view c.args.self) c.args.table.now c.args.l eight
-    (sym c.may_count.ensures ∙ not-true _ c.if-not-may_count.true)
+    (sym c.may_count.ensures ∙ c.if-not-may_count.true)
 
 pub offset_bounds-table-slot : goal.offset_bounds-table-slot
 offset_bounds-table-slot c =
-    let counted : Allowed (types_in c.args.vars.now) c.args.table.now c.args.l.level c.args.l.slot c.args.l.step = allowed _ _ _ _ _ asked in
+    let counted : Allowed (types_in c.args.vars.now) c.args.table.now c.args.l.level c.args.l.slot c.args.l.step = allowed _ _ _ _ _ (sym c.may_count.ensures ∙ c.if-not-may_count.false) in
     omega (arith, counted.slot)
 
 pub slice_copy_out-advanced : goal.slice_copy_out-advanced
 slice_copy_out-advanced c =
-    let counted : Allowed (types_in c.args.vars.now) c.args.table.now c.args.l.level c.args.l.slot c.args.l.step = allowed _ _ _ _ _ asked in
+    let counted : Allowed (types_in c.args.vars.now) c.args.table.now c.args.l.level c.args.l.slot c.args.l.step = allowed _ _ _ _ _ (sym c.may_count.ensures ∙ c.if-not-may_count.false) in
     omega (arith, counted.slot)
 
 pub offset_bounds-held-level : goal.offset_bounds-held-level
 offset_bounds-held-level c =
-    let counted : Allowed (types_in c.args.vars.now) c.args.table.now c.args.l.level c.args.l.slot c.args.l.step = allowed _ _ _ _ _ asked in
+    let counted : Allowed (types_in c.args.vars.now) c.args.table.now c.args.l.level c.args.l.slot c.args.l.step = allowed _ _ _ _ _ (sym c.may_count.ensures ∙ c.if-not-may_count.false) in
     omega (arith, counted.level)
 
 pub bounds-held-level : goal.bounds-held-level
 bounds-held-level c =
     let eight : length c.args.self.held ≡ for_limit = search rules in
-    let counted : Allowed (types_in c.args.vars.now) c.args.table.now c.args.l.level c.args.l.slot c.args.l.step = allowed _ _ _ _ _ asked in
+    let counted : Allowed (types_in c.args.vars.now) c.args.table.now c.args.l.level c.args.l.slot c.args.l.step = allowed _ _ _ _ _ (sym c.may_count.ensures ∙ c.if-not-may_count.false) in
     omega (arith, counted.level, eight)
 
 pub returns-in_default : goal.returns-in_default
 returns-in_default c =
     let eight : length c.args.self.held ≡ for_limit = search rules in
-    let asked : may_count (types_in c.args.vars.now) c.args.table.now c.args.l.level c.args.l.slot c.args.l.step ≡ true = sym c.may_count.ensures ∙ not-false _ c.if-not-may_count.false in
+    let asked : may_count (types_in c.args.vars.now) c.args.table.now c.args.l.level c.args.l.slot c.args.l.step ≡ true = sym c.may_count.ensures ∙ c.if-not-may_count.false in
     let answered : advance_of (get_or c.args.table.now c.args.l.slot (pos 0)) c.args.l.step (get_or c.args.self.held c.args.l.level (pos 0)) ≡ c.advanced-a.result = let v = get_or c.args.table.now c.args.l.slot (pos 0) in
     let h = get_or c.args.self.held c.args.l.level (pos 0) in
     let x : to_z w32 (of_z w32 v) ≡ v = search rules in
@@ -62,18 +61,18 @@ returns-in_default c =
 
 pub offset_bounds-table-slot-then-may_jump : goal.offset_bounds-table-slot-then-may_jump
 offset_bounds-table-slot-then-may_jump c =
-    let counted : Allowed (types_in c.args.vars.now) c.args.table.now c.args.l.level c.args.l.slot c.args.l.step = allowed _ _ _ _ _ asked in
+    let counted : Allowed (types_in c.args.vars.now) c.args.table.now c.args.l.level c.args.l.slot c.args.l.step = allowed _ _ _ _ _ (sym c.may_count.ensures ∙ c.if-not-may_count.false) in
     omega (arith, counted.slot)
 
 pub bounds-table-slot : goal.bounds-table-slot
 bounds-table-slot c =
-    let counted : Allowed (types_in c.args.vars.now) c.args.table.now c.args.l.level c.args.l.slot c.args.l.step = allowed _ _ _ _ _ asked in
+    let counted : Allowed (types_in c.args.vars.now) c.args.table.now c.args.l.level c.args.l.slot c.args.l.step = allowed _ _ _ _ _ (sym c.may_count.ensures ∙ c.if-not-may_count.false) in
     omega (arith, counted.slot)
 
 pub returns-then-may_jump : goal.returns-then-may_jump
 returns-then-may_jump c =
     let eight : length c.args.self.held ≡ for_limit = search rules in
-    let asked : may_count (types_in c.args.vars.now) c.args.table.now c.args.l.level c.args.l.slot c.args.l.step ≡ true = sym c.may_count.ensures ∙ not-false _ c.if-not-may_count.false in
+    let asked : may_count (types_in c.args.vars.now) c.args.table.now c.args.l.level c.args.l.slot c.args.l.step ≡ true = sym c.may_count.ensures ∙ c.if-not-may_count.false in
     let answered : advance_of (get_or c.args.table.now c.args.l.slot (pos 0)) c.args.l.step (get_or c.args.self.held c.args.l.level (pos 0)) ≡ c.advanced-a.result = let v = get_or c.args.table.now c.args.l.slot (pos 0) in
     let h = get_or c.args.self.held c.args.l.level (pos 0) in
     let x : to_z w32 (of_z w32 v) ≡ v = search rules in
@@ -92,7 +91,7 @@ returns-then-may_jump c =
 pub returns : goal.returns
 returns c =
     let eight : length c.args.self.held ≡ for_limit = search rules in
-    let asked : may_count (types_in c.args.vars.now) c.args.table.now c.args.l.level c.args.l.slot c.args.l.step ≡ true = sym c.may_count.ensures ∙ not-false _ c.if-not-may_count.false in
+    let asked : may_count (types_in c.args.vars.now) c.args.table.now c.args.l.level c.args.l.slot c.args.l.step ≡ true = sym c.may_count.ensures ∙ c.if-not-may_count.false in
     let answered : advance_of (get_or c.args.table.now c.args.l.slot (pos 0)) c.args.l.step (get_or c.args.self.held c.args.l.level (pos 0)) ≡ c.advanced-a.result = let v = get_or c.args.table.now c.args.l.slot (pos 0) in
     let h = get_or c.args.self.held c.args.l.level (pos 0) in
     let x : to_z w32 (of_z w32 v) ≡ v = search rules in
