@@ -1,10 +1,9 @@
 -- What lies in lent numbers, taken apart. Assumes nothing.
 use Rattle.std.specs.Prelude.{◌≡◌, refl, Bool, true, false, List, [], ◌∷◌, ◌++◌, ℕ, ◌+◌, ◌-◌, ◌≤◌, leb, length, get_or, drop}
-use Rattle.std.proofs.Common.{sym, ap, ◌∙◌, append_assoc, add-zero, arith, length-append, length-drop, get_or-drop, drop-drop, le-leb, leb-true, leb-false}
+use Rattle.std.proofs.Common.{sym, ap, ◌∙◌, append_assoc, add-zero, arith, length-append, length-drop, get_or-drop, drop-drop, le-leb, leb-true}
 use Rattle.rules.specs.Base.{pick}
 use Rattle.rules.specs.Cells.{cell}
 use Rattle.cells.specs.Reading.{cell_in, behind, Lies}
-use Rattle.cells.specs.declared.Cell.{Cell}
 
 drop_front : (xs ys : List ℕ) → drop (length xs) (xs ++ ys) ≡ ys
 drop_front [] ys = refl

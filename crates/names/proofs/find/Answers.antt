@@ -1,5 +1,4 @@
 use mathlib.Core.Path.{sym, ap, ◌∙◌}
-use Prim.Native.Nat.{◌-◌}
 use Rattle.names.specs.Rows.{slot_or}
 use Rattle.names.proofs.Rows.{rows_start, row-found, row_on, rows_end}
 use Rattle.names.proofs.find.Goals as goal

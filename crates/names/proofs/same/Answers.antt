@@ -1,5 +1,4 @@
 use mathlib.Core.Path.{sym, ◌∙◌}
-use Prim.Native.Nat.{◌-◌}
 use Rattle.names.proofs.Letters.{letters_start, letter_on, letter_off, letters_end}
 use Rattle.names.proofs.same.Goals as goal
 

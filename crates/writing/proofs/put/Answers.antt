@@ -1,4 +1,3 @@
-use Prim.Native.Nat.{◌-◌}
 use native.Mathlib.Omega.{arith}
 use lib.Seq.{take_all}
 use Rattle.writing.proofs.Buffers.{sets_more, put_in, put_out}

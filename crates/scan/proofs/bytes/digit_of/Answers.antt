@@ -24,8 +24,11 @@ returns-then-within c = let e = sym c.within.ensures ∙ c.if-within.true in rec
 pub returns : goal.returns
 unfolding digit_of
 returns c =
-    record { means = rw (
-    sym c.is_digit.ensures ∙ c.if-is_digit.false,
-    ← c.upper-y.ensures,
-    sym c.within.ensures ∙ c.if-within.false,
-  ); small = omega arith }
+    record {
+      means = rw (
+        sym c.is_digit.ensures ∙ c.if-is_digit.false,
+        ← c.upper-y.ensures,
+        sym c.within.ensures ∙ c.if-within.false,
+      );
+      small = omega arith;
+    }

@@ -1,6 +1,5 @@
 use mathlib.Core.Path.{◌≡◌, sym, ap, ◌∙◌}
 use mathlib.Core.Bool.{true, false}
-use Prim.Native.Nat.{◌-◌}
 use native.Mathlib.Omega.{arith}
 use borrow.Author.Rules.{rules}
 use lib.ListN.{drop}
@@ -13,44 +12,41 @@ pub loop-i-init : goal.loop-i-init
 loop-i-init c = (search rules, begins c.args.text.now c.args.from)
 
 pub loop-i-preserved-then-stand_at : goal.loop-i-preserved-then-stand_at
-loop-i-preserved-then-stand_at c =
-    (
-      search rules,
-      c.loop-i.invariant.1 ∙
-          opens (text c) (from c) c.loop-i.i c.loop-i.«open» (omega arith) (omega arith) (sym c.stand_at.ensures ∙ c.if-stand_at.true),
-    )
+loop-i-preserved-then-stand_at c = (
+  search rules,
+  c.loop-i.invariant.1 ∙
+      opens c.args.text.now c.args.from c.loop-i.i c.loop-i.«open» (omega arith) (omega arith) (sym c.stand_at.ensures ∙ c.if-stand_at.true),
+)
 
 pub returns-then-open-eq0 : goal.returns-then-open-eq0
 unfolding shown comment_piece
 returns-then-open-eq0 c =
-    let not_opened : starts 40 42 (drop c.loop-i.i (text c)) ≡ false = sym c.stand_at.ensures ∙ c.if-stand_at.false in
-    let closed : starts 42 41 (drop c.loop-i.i (text c)) ≡ true = sym c.stand_at-else-stand_at.ensures ∙ c.if-stand_at-2.true in
+    let not_opened : starts 40 42 (drop c.loop-i.i c.args.text.now) ≡ false = sym c.stand_at.ensures ∙ c.if-stand_at.false in
+    let closed : starts 42 41 (drop c.loop-i.i c.args.text.now) ≡ true = sym c.stand_at-else-stand_at.ensures ∙ c.if-stand_at-2.true in
     sym
     (ap (λ o. shown (comment_piece o))
     (c.loop-i.invariant.1 ∙
-    ends (text c) (from c) c.loop-i.i c.loop-i.«open» (omega arith) (omega arith) not_opened closed (omega arith)))
+    ends c.args.text.now c.args.from c.loop-i.i c.loop-i.«open» (omega arith) (omega arith) not_opened closed (omega arith)))
 
 pub loop-i-preserved-else-open-eq0 : goal.loop-i-preserved-else-open-eq0
 loop-i-preserved-else-open-eq0 c =
-    let not_opened : starts 40 42 (drop c.loop-i.i (text c)) ≡ false = sym c.stand_at.ensures ∙ c.if-stand_at.false in
-    let closed : starts 42 41 (drop c.loop-i.i (text c)) ≡ true = sym c.stand_at-else-stand_at.ensures ∙ c.if-stand_at-2.true in
-    (
+    let not_opened : starts 40 42 (drop c.loop-i.i c.args.text.now) ≡ false = sym c.stand_at.ensures ∙ c.if-stand_at.false in
+    let closed : starts 42 41 (drop c.loop-i.i c.args.text.now) ≡ true = sym c.stand_at-else-stand_at.ensures ∙ c.if-stand_at-2.true in (
       search rules,
       c.loop-i.invariant.1 ∙
-          closes (text c) (from c) c.loop-i.i c.loop-i.«open» (omega arith) (omega arith)
+          closes c.args.text.now c.args.from c.loop-i.i c.loop-i.«open» (omega arith) (omega arith)
           not_opened closed (λ e. c.if-open-eq0.false (omega arith)),
     )
 
 pub loop-i-preserved : goal.loop-i-preserved
 loop-i-preserved c =
-    let not_opened : starts 40 42 (drop c.loop-i.i (text c)) ≡ false = sym c.stand_at.ensures ∙ c.if-stand_at.false in
-    (
+    let not_opened : starts 40 42 (drop c.loop-i.i c.args.text.now) ≡ false = sym c.stand_at.ensures ∙ c.if-stand_at.false in (
       search rules,
       c.loop-i.invariant.1 ∙
-          passes (text c) (from c) c.loop-i.i c.loop-i.«open» (omega arith) (omega arith)
+          passes c.args.text.now c.args.from c.loop-i.i c.loop-i.«open» (omega arith) (omega arith)
           not_opened (sym c.stand_at-else-stand_at.ensures ∙ c.if-stand_at-2.false),
     )
 
 pub returns : goal.returns
 unfolding shown comment_piece
-returns c = sym (ap (λ o. shown (comment_piece o)) (c.loop-i.invariant.1 ∙ never (text c) (from c) c.loop-i.i c.loop-i.«open» (omega arith) (omega arith)))
+returns c = sym (ap (λ o. shown (comment_piece o)) (c.loop-i.invariant.1 ∙ never c.args.text.now c.args.from c.loop-i.i c.loop-i.«open» (omega arith) (omega arith)))

@@ -1,7 +1,5 @@
-use mathlib.Core.Path.{◌≡◌, sym, ◌∙◌}
-use mathlib.Core.Bool.{true, false}
-use mathlib.Core.Logic.{⊎_elim}
-use Prim.Native.Nat.{◌-◌}
+use mathlib.Core.Path.{◌≡◌, sym, ap, ◌∙◌}
+use mathlib.Core.Bool.{true, false, not}
 use native.Mathlib.Nat.{mul-le-mul}
 use native.Mathlib.Omega.{arith}
 use lib.ListN.{drop}
@@ -10,6 +8,7 @@ use Rattle.rules.specs.Tokens.{in_integer}
 use Rattle.scan.specs.Pieces.{in_run}
 use Rattle.scan.proofs.Digits.{reading, on_lt, under_on, under_bad, digit_on, digit_bad, end_bad, end_large, end_token}
 use Rattle.scan.proofs.integers.digits.Goals as goal
+use Rattle.scan.proofs.integers.digits.Goals.{then-x-eq95+else-not-after, else-x-eq95+else-base-digit}
 
 pub loop-x-init : goal.loop-x-init
 loop-x-init c = reading (search rules) (search rules)
@@ -22,7 +21,7 @@ bounds-text-i c =
 pub returns-then-not-after : goal.returns-then-not-after
 returns-then-not-after c =
     let on : in_run in_integer (drop c.loop-x.i c.args.text.now) ≡ true = sym c.goes_on.ensures ∙ c.loop-x-test.true in
-    under_bad c.loop-x.invariant on c.if-x-eq95.true c.if-not-after.true
+    under_bad c.loop-x.invariant on c.if-x-eq95.true (ap not c.if-not-after.true)
 
 pub returns-then-base-digit : goal.returns-then-base-digit
 returns-then-base-digit c =
@@ -44,22 +43,24 @@ pub loop-x-preserved : goal.loop-x-preserved
 loop-x-preserved c =
     let on : in_run in_integer (drop c.loop-x.i c.args.text.now) ≡ true = sym c.goes_on.ensures ∙ c.loop-x-test.true in
     let r = c.loop-x.invariant in
-    ⊎_elim
-    (λ w. rw (w.2, w.3) (under_on r on w.0.taken w.1.left))
-    (λ w. rw w.5 (digit_on r on w.0.left w.1.ensures.0 (omega arith) w.2.left (w.4 ∙ w.3.ensures)))
-    c.if-x-eq95.branch
+    elim c.if-x-eq95.branch [
+      | then-x-eq95+else-not-after w ↦ rw (w.value-is, w.after-is) (under_on r on w.if-x-eq95.true (ap not w.if-not-after.false))
+      | else-x-eq95+else-base-digit w ↦
+          rw w.after-is
+          (digit_on r on w.if-x-eq95.false w.digit_of-digit.ensures.means (omega arith) w.if-base-digit.false (w.value-is ∙ w.capped-value.ensures))
+    ]
 
 pub returns-then-not-after-2 : goal.returns-then-not-after-2
 returns-then-not-after-2 c =
     let off : in_run in_integer (drop c.loop-x.i c.args.text.now) ≡ false = sym c.goes_on.ensures ∙ c.loop-x-test.false in
-    end_bad c.loop-x.invariant off c.if-not-after-2.true
+    end_bad c.loop-x.invariant off (ap not c.if-not-after-2.true)
 
 pub returns-then-value-gt2147483648 : goal.returns-then-value-gt2147483648
 returns-then-value-gt2147483648 c =
     let off : in_run in_integer (drop c.loop-x.i c.args.text.now) ≡ false = sym c.goes_on.ensures ∙ c.loop-x-test.false in
-    end_large c.loop-x.invariant off c.if-not-after-2.false c.if-value-gt2147483648.true
+    end_large c.loop-x.invariant off (ap not c.if-not-after-2.false) c.if-value-gt2147483648.true
 
 pub returns : goal.returns
 returns c =
     let off : in_run in_integer (drop c.loop-x.i c.args.text.now) ≡ false = sym c.goes_on.ensures ∙ c.loop-x-test.false in
-    end_token c.loop-x.invariant off c.if-not-after-2.false c.if-value-gt2147483648.false
+    end_token c.loop-x.invariant off (ap not c.if-not-after-2.false) c.if-value-gt2147483648.false

@@ -1,11 +1,14 @@
-use mathlib.Core.Path.{sym, ◌∙◌, ap}
-use mathlib.Core.Logic.{⊎_elim}
+use mathlib.Core.Path.{◌≡◌, sym, ◌∙◌, ap}
+use mathlib.Core.Bool.{false, ◌&&◌}
 use Prim.Native.Nat.{◌+◌}
 use native.Mathlib.Omega.{arith}
+use lib.ListN.{drop}
+use Rattle.rules.specs.Tokens.{starts}
 use Rattle.scan.specs.Pieces.{shown}
 use Rattle.scan.proofs.Starts.{starts-lt}
 use Rattle.scan.proofs.Bases.{base_2, base_8, base_16, base_10}
 use Rattle.scan.proofs.integers.integer.Goals as goal
+use Rattle.scan.proofs.integers.integer.Goals.{then-stand_at-3+else-stand_at-4, else-stand_at-3}
 
 pub digits-requires : goal.digits-requires
 digits-requires c =
@@ -47,6 +50,12 @@ returns-then-stand_at-4 c =
 pub returns : goal.returns
 returns c =
     let s = c.args in
+    let no_16 : (starts 49 54 (drop s.from s.text.now) && starts 54 35 (drop (s.from + 1) s.text.now)) ≡ false =
+    elim c.if-stand_at-3.branch [
+      | then-stand_at-3+else-stand_at-4 w ↦
+          rw (sym c.stand_at-3.ensures ∙ w.if-stand_at-3.true, sym w.stand_at-then-stand_at-3.ensures ∙ w.if-stand_at-4.false)
+      | else-stand_at-3 w ↦ rw (sym c.stand_at-3.ensures ∙ w.if-stand_at-3.false)
+    ] in
     c.digits-2.ensures ∙
     ap
     shown
@@ -55,7 +64,4 @@ returns c =
     s.from
     (sym c.stand_at.ensures ∙ c.if-stand_at.false)
     (sym c.stand_at-2.ensures ∙ c.if-stand_at-2.false)
-    (⊎_elim
-    (λ w. rw (sym c.stand_at-3.ensures ∙ w.0.taken, sym w.1.ensures ∙ w.2.left))
-    (λ w. rw (sym c.stand_at-3.ensures ∙ w.left))
-    c.if-stand_at-3.branch))
+    no_16)

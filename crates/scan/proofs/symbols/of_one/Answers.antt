@@ -1,6 +1,7 @@
 use mathlib.Core.Path.{◌≡◌}
 use Prim.Native.Nat.{ℕ}
-use borrow.Author.Tests.{ne_eqb}
+use native.Mathlib.Omega.{arith}
+use Rattle.std.proofs.lemmas.Grind.{common_steps}
 use Rattle.rules.specs.Tokens.{symbol1}
 use Rattle.scan.proofs.symbols.of_one.Goals as goal
 
@@ -62,20 +63,4 @@ returns-in-38 c = is c.in-38.is
 
 pub returns-in_default : goal.returns-in_default
 unfolding symbol1
-returns-in_default c =
-    let r = c.in_default.in_default-own.rest in
-    simp (
-      ne_eqb _ _ r.0.0.0.0.0.0.0.0.0.0.0.0.1,
-      ne_eqb _ _ r.0.0.0.0.0.0.0.0.0.0.0.1,
-      ne_eqb _ _ r.0.0.0.0.0.0.0.0.0.0.1,
-      ne_eqb _ _ r.0.0.0.0.0.0.0.0.0.1,
-      ne_eqb _ _ r.0.0.0.0.0.0.0.0.1,
-      ne_eqb _ _ r.0.0.0.0.0.0.0.1,
-      ne_eqb _ _ r.0.0.0.0.0.0.1,
-      ne_eqb _ _ r.0.0.0.0.0.1,
-      ne_eqb _ _ r.0.0.0.0.1,
-      ne_eqb _ _ r.0.0.0.1,
-      ne_eqb _ _ r.0.0.1,
-      ne_eqb _ _ r.0.1,
-      ne_eqb _ _ r.1,
-    )
+returns-in_default c = grind (arith, common_steps)

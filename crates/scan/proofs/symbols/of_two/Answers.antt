@@ -1,8 +1,10 @@
 use mathlib.Core.Path.{◌≡◌, sym}
 use mathlib.Core.Bool.{false}
 use Prim.Native.Nat.{ℕ}
+use native.Mathlib.Omega.{arith}
 use lib.Dec.{eqb}
 use borrow.Author.Tests.{ne_eqb}
+use Rattle.std.proofs.lemmas.Grind.{common_steps}
 use Rattle.rules.specs.Tokens.{starts, symbol2}
 use Rattle.scan.specs.Pieces.{pair_kind}
 use Rattle.scan.proofs.symbols.of_two.Goals as goal
@@ -41,7 +43,7 @@ returns-in-62-y c = rw (c.in-60.is, c.in-62-y.is)
 
 pub returns-in_default-y : goal.returns-in_default-y
 unfolding pair_kind symbol2 starts
-returns-in_default-y c = rw (c.in-60.is, off c.in_default-y.in_default-y-own.rest.0.1, off c.in_default-y.in_default-y-own.rest.1)
+returns-in_default-y c = grind (arith, common_steps)
 
 pub returns-else-y-eq61-2 : goal.returns-else-y-eq61-2
 unfolding pair_kind symbol2 starts
@@ -49,4 +51,4 @@ returns-else-y-eq61-2 c = rw (c.in-62.is, off c.if-y-eq61-2.false)
 
 pub returns-in_default : goal.returns-in_default
 unfolding pair_kind symbol2 starts
-returns-in_default c = rw (off c.in_default.in_default-own.rest.0.0.0.1, off c.in_default.in_default-own.rest.0.0.1, off c.in_default.in_default-own.rest.0.1, off c.in_default.in_default-own.rest.1)
+returns-in_default c = grind (arith, common_steps)

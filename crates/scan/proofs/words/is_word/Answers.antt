@@ -1,5 +1,4 @@
 use mathlib.Core.Path.{sym, ◌∙◌}
-use Prim.Native.Nat.{◌-◌}
 use native.Mathlib.Omega.{arith}
 use borrow.Author.Rules.{rules}
 use Rattle.rules.specs.Base.{bytes}
@@ -13,7 +12,8 @@ unfolding rows reserved entry bytes
 returns-then-words-row c = sym (other_length _ _ _ _ c.requires.0 c.requires.2 c.if-words-row.true)
 
 pub overflow_add-row-in-loop-k : goal.overflow_add-row-in-loop-k
-overflow_add-row-in-loop-k c = omega (arith, array-read-if2 c)
+unfolding rows reserved entry bytes
+overflow_add-row-in-loop-k c = omega (arith, c.if-words-row.false, long c.args.row c.requires.2, short c.args.row c.requires.2)
 
 pub bounds-words-row-in-loop-k : goal.bounds-words-row-in-loop-k
 unfolding rows reserved entry bytes
@@ -28,12 +28,11 @@ returns-then-upper-words c =
 
 pub loop-k-preserved : goal.loop-k-preserved
 unfolding rows reserved entry bytes
-loop-k-preserved c =
-    (
-      search rules,
-      c.loop-k.invariant.1
-          ∙ letter_on _ _ _ _ c.requires.0 c.requires.2 c.if-words-row.false _ c.loop-k-test.true (sym c.upper.ensures ∙ c.if-upper-words.false),
-    )
+loop-k-preserved c = (
+  search rules,
+  c.loop-k.invariant.1
+      ∙ letter_on _ _ _ _ c.requires.0 c.requires.2 c.if-words-row.false _ c.loop-k-test.true (sym c.upper.ensures ∙ c.if-upper-words.false),
+)
 
 pub returns : goal.returns
 unfolding rows reserved entry bytes

@@ -1,5 +1,4 @@
 use mathlib.Core.Path.{sym, ◌∙◌}
-use Prim.Native.Nat.{◌-◌}
 use borrow.Author.Rules.{rules}
 use Rattle.scan.proofs.Lookup.{lookup-found, lookup_on, lookup_end}
 use Rattle.scan.proofs.words.kind_of.Goals as goal

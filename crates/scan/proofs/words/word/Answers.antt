@@ -1,5 +1,4 @@
 use mathlib.Core.Path.{sym, ◌∙◌}
-use Prim.Native.Nat.{◌-◌}
 use Rattle.scan.proofs.Names.{first, doubled, over, next, under_last, named, reserved_one}
 use Rattle.scan.proofs.words.word.Goals as goal
 
