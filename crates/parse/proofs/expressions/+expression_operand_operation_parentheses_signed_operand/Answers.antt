@@ -87,7 +87,7 @@ parentheses-write-requires t c = omega (arith, passed _ _ c.skip.ensures c.requi
 pub parentheses-returns : goal.parentheses-returns
 parentheses-returns t c =
     let one = passed _ _ c.skip.ensures c.requires.1.1 in record { fine = omega (arith, wrote c.args.count _ c.write.ensures.0); means = λ f h. reads-inner (omega arith) _ c.next-token.ensures _ c.if-nesting-ge16.false c.skip.ensures
-          (rw (add-one c.args.nesting) at (c.expression-inner.ensures.means f (omega arith))) c.take-closed.ensures.paid.1.1 c.write.ensures }
+          (rw (add-one c.args.nesting) at (c.expression-inner.ensures.means f (omega arith))) c.take-closed.ensures.means c.write.ensures }
 
 pub signed_operand-returns-then-code-eq1 : goal.signed_operand-returns-then-code-eq1
 signed_operand-returns-then-code-eq1 t c =

@@ -26,7 +26,7 @@ branch-list-requires t c =
   arith,
   longer c.args.count _
       c.write-head.ensures.0,
-  c.take-then.ensures.paid.0 (omega arith),
+  c.take-then.ensures.paid (omega arith),
 )
 
 pub branch-returns : goal.branch-returns
@@ -202,7 +202,7 @@ for_do-returns t c =
     c.maybe_constant-step.ensures c.take-body.ensures c.list-r.ensures c.take.ensures
 
 pub group-list-requires : goal.group-list-requires
-group-list-requires t c = omega (arith, c.take-colon.ensures.paid.0 (omega arith))
+group-list-requires t c = omega (arith, c.take-colon.ensures.paid (omega arith))
 
 pub group-returns : goal.group-returns
 group-returns t c = group-does _ _ c.requires.1 c.labels-head.ensures c.take-colon.ensures c.list.ensures

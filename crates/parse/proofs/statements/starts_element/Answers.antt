@@ -4,6 +4,7 @@ use mathlib.Core.List.{[], ◌∷◌}
 use mathlib.Core.Logic.{inl, inr}
 use Prim.Native.Nat.{ℕ, ◌≤◌}
 use native.Mathlib.Omega.{arith}
+use borrow.Author.Rules.{rules}
 use lib.Dec.{eqb}
 use borrow.Author.Tests.{eqb-true, eqb-false, ne_eqb}
 use types.Run.{OneOf}
@@ -51,10 +52,10 @@ none k n for if =
     )
 
 pub returns-in_default : goal.returns-in_default
-returns-in_default c = none _ c.in_default-1.rest.1 (λ e. omega arith) (λ e. omega arith)
+returns-in_default c = none _ (grind arith) (λ e. omega arith) (λ e. omega arith)
 
 pub returns-in_default-2 : goal.returns-in_default-2
-returns-in_default-2 c = none _ c.in_default-1.rest.1 (λ e. omega arith) (λ e. omega arith)
+returns-in_default-2 c = none _ (grind arith) (λ e. omega arith) (λ e. omega arith)
 
 pub returns-in-41 : goal.returns-in-41
 returns-in-41 c = one _ c.in-41.is
