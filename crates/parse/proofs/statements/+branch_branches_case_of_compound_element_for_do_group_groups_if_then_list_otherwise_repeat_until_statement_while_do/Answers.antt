@@ -30,7 +30,7 @@ branch-list-requires t c =
 )
 
 pub branch-returns : goal.branch-returns
-branch-returns t c = branch-does _ _ c.requires.1 c.write-head.ensures c.whole-condition.ensures c.take-then.ensures c.list.ensures
+branch-returns t c = branch-does _ _ c.requires c.write-head.ensures c.whole-condition.ensures c.take-then.ensures c.list.ensures
 
 pub branches-loop-memory-init : goal.branches-loop-memory-init
 branches-loop-memory-init t c = (omega arith, refl, branches_start _ _ _ _ _)
@@ -55,26 +55,26 @@ branches-loop-memory-preserved t c =
         c.skip.ensures,
   ),
   omega arith,
-  branches-turn _ _ (le_trans c.requires.1.0 c.branch-r.ensures.fine.2) (le_trans c.requires.1.0 c.loop-memory.invariant.0.2)
+  branches-turn _ _ (le_trans c.requires.0 c.branch-r.ensures.fine.2) (le_trans c.requires.0 c.loop-memory.invariant.0.2)
       c.loop-memory.invariant.2 c.kind.ensures c.loop-memory-test.true
       c.skip.ensures c.branch-r-in-loop-memory.ensures.means c.branch-r-in-loop-memory.ensures.fine.0,
 )
 
 pub branches-returns : goal.branches-returns
 branches-returns t c =
-    record { fine = omega arith; means = branches_first _ _ (le_trans c.requires.1.0 c.requires.1.2) c.branch-r.ensures.means c.branch-r.ensures.fine.0
-      (branches_done _ _ (le_trans c.requires.1.0 c.branch-r.ensures.fine.2) c.loop-memory.invariant.2 c.kind.ensures
+    record { fine = omega arith; means = branches_first _ _ (le_trans c.requires.0 c.requires.2) c.branch-r.ensures.means c.branch-r.ensures.fine.0
+      (branches_done _ _ (le_trans c.requires.0 c.branch-r.ensures.fine.2) c.loop-memory.invariant.2 c.kind.ensures
       c.loop-memory-test.false c.otherwise.ensures.means) }
 
 pub case_of-write-head-requires : goal.case_of-write-head-requires
-case_of-write-head-requires t c = omega (arith, passed _ _ c.skip.ensures c.requires.1.1)
+case_of-write-head-requires t c = omega (arith, passed _ _ c.skip.ensures c.requires.1)
 
 pub case_of-whole-selector-requires : goal.case_of-whole-selector-requires
 case_of-whole-selector-requires t c =
     omega (
   arith,
   passed _ _ c.skip.ensures
-      c.requires.1.1,
+      c.requires.1,
   longer
       c.args.count _ c.write-head.ensures.0,
 )
@@ -87,7 +87,7 @@ case_of-groups-r-requires t c =
     omega (
   arith,
   passed _ _ c.skip.ensures
-      c.requires.1.1,
+      c.requires.1,
   longer
       c.args.count _
       c.write-head.ensures.0,
@@ -98,66 +98,66 @@ case_of-take-requires t c = omega (arith, (case-of-groups-requires t c κs))
 
 pub case_of-returns : goal.case_of-returns
 case_of-returns t c =
-    case_of_does c.requires.1 c.skip.ensures _ _ c.write-head.ensures c.whole-selector.ensures c.take-of.ensures
+    case_of_does c.requires c.skip.ensures _ _ c.write-head.ensures c.whole-selector.ensures c.take-of.ensures
     c.groups-r.ensures c.take.ensures
 
 pub compound-returns-then-nesting-ge16 : goal.compound-returns-then-nesting-ge16
 compound-returns-then-nesting-ge16 t c =
-    record { fine = omega (arith, refused c.args.count _ _ _ c.refuse.ensures); means = λ f h. compound-deep-means f _ _ (le_trans c.requires.1.0.0 c.requires.1.0.2) c.next-token.ensures c.if-nesting-ge16.true
+    record { fine = omega (arith, refused c.args.count _ _ _ c.refuse.ensures); means = λ f h. compound-deep-means f _ _ (le_trans c.requires.0.0 c.requires.0.2) c.next-token.ensures c.if-nesting-ge16.true
       c.refuse.ensures }
 
 pub compound-returns-then-fors-ge8 : goal.compound-returns-then-fors-ge8
 compound-returns-then-fors-ge8 t c =
-    record { fine = omega (arith, refused c.args.count _ _ _ c.refuse-then-fors-ge8.ensures); means = λ f h. compound-many-means f _ _ (le_trans c.requires.1.0.0 c.requires.1.0.2) c.next-token.ensures c.if-nesting-ge16.false
+    record { fine = omega (arith, refused c.args.count _ _ _ c.refuse-then-fors-ge8.ensures); means = λ f h. compound-many-means f _ _ (le_trans c.requires.0.0 c.requires.0.2) c.next-token.ensures c.if-nesting-ge16.false
       c.in-20.is c.if-fors-ge8.true c.refuse-then-fors-ge8.ensures }
 
 pub compound-returns-in-21 : goal.compound-returns-in-21
 compound-returns-in-21 t c =
-    record { fine = c.if_then.ensures.fine; means = λ f h. compound_if_means f _ _ (le_trans c.requires.1.0.0 c.requires.1.0.2) c.next-token.ensures
+    record { fine = c.if_then.ensures.fine; means = λ f h. compound_if_means f _ _ (le_trans c.requires.0.0 c.requires.0.2) c.next-token.ensures
           c.if-nesting-ge16.false c.in-21.is (c.if_then.ensures.means f h) }
 
 pub compound-returns-in-6 : goal.compound-returns-in-6
 compound-returns-in-6 t c =
-    record { fine = c.case_of.ensures.fine; means = λ f h. compound-case-means f _ _ (le_trans c.requires.1.0.0 c.requires.1.0.2) c.next-token.ensures
+    record { fine = c.case_of.ensures.fine; means = λ f h. compound-case-means f _ _ (le_trans c.requires.0.0 c.requires.0.2) c.next-token.ensures
           c.if-nesting-ge16.false c.in-6.is (c.case_of.ensures.means f h) }
 
 pub compound-returns-else-fors-ge8 : goal.compound-returns-else-fors-ge8
 compound-returns-else-fors-ge8 t c =
-    record { fine = c.for_do.ensures.fine; means = λ f h. compound_for_means f _ _ (le_trans c.requires.1.0.0 c.requires.1.0.2) c.next-token.ensures c.if-nesting-ge16.false
+    record { fine = c.for_do.ensures.fine; means = λ f h. compound_for_means f _ _ (le_trans c.requires.0.0 c.requires.0.2) c.next-token.ensures c.if-nesting-ge16.false
           c.in-20.is c.if-fors-ge8.false (c.for_do.ensures.means f h) }
 
 pub compound-returns-in-33 : goal.compound-returns-in-33
 compound-returns-in-33 t c =
-    record { fine = c.while_do.ensures.fine; means = λ f h. compound_while_means f _ _ (le_trans c.requires.1.0.0 c.requires.1.0.2)
+    record { fine = c.while_do.ensures.fine; means = λ f h. compound_while_means f _ _ (le_trans c.requires.0.0 c.requires.0.2)
           c.next-token.ensures c.if-nesting-ge16.false c.in-33.is (c.while_do.ensures.means f h) }
 
 pub compound-returns-in_default : goal.compound-returns-in_default
 compound-returns-in_default t c =
-    record { fine = c.repeat_until.ensures.fine; means = λ f h. compound-repeat-means f _ _ (le_trans c.requires.1.0.0 c.requires.1.0.2) c.next-token.ensures c.if-nesting-ge16.false
+    record { fine = c.repeat_until.ensures.fine; means = λ f h. compound-repeat-means f _ _ (le_trans c.requires.0.0 c.requires.0.2) c.next-token.ensures c.if-nesting-ge16.false
           c.in_default.in_default-own.rest.0.0.0.1 c.in_default.in_default-own.rest.0.0.1
           c.in_default.in_default-own.rest.0.1 c.in_default.in_default-own.rest.1 (c.repeat_until.ensures.means f h) }
 
 pub element-returns-then-kind-eq-SEMI : goal.element-returns-then-kind-eq-SEMI
 element-returns-then-kind-eq-SEMI t c =
     (
-  omega (arith, passed _ _ c.skip.ensures c.requires.1.1),
+  omega (arith, passed _ _ c.skip.ensures c.requires.1),
   (
     omega (
       arith,
       passed _ _
           c.skip.ensures
-          c.requires.1.1,
+          c.requires.1,
     ),
-    λ f h. element_semi_means f _ _ (le_trans c.requires.1.0.0 c.requires.1.0.2) c.kind.ensures c.if-kind-eq-SEMI.true
+    λ f h. element_semi_means f _ _ (le_trans c.requires.0.0 c.requires.0.2) c.kind.ensures c.if-kind-eq-SEMI.true
         c.skip.ensures,
   ),
 )
 
 pub element-returns : goal.element-returns
-element-returns t c = element-does _ _ c.requires.1 c.kind.ensures c.if-kind-eq-SEMI.false c.statement-r.ensures c.take.ensures
+element-returns t c = element-does _ _ c.requires c.kind.ensures c.if-kind-eq-SEMI.false c.statement-r.ensures c.take.ensures
 
 pub for_do-named-head-requires : goal.for_do-named-head-requires
-for_do-named-head-requires t c = omega (arith, passed _ _ c.skip.ensures c.requires.1.1)
+for_do-named-head-requires t c = omega (arith, passed _ _ c.skip.ensures c.requires.1)
 
 pub for_do-take-assigned-requires : goal.for_do-take-assigned-requires
 for_do-take-assigned-requires t c = omega (arith, (for-do-named-requires t c κs))
@@ -185,7 +185,7 @@ for_do-take-body-requires t c = omega (arith, (for-do-maybe-constant-requires t 
 pub for_do-list-r-requires : goal.for_do-list-r-requires
 for_do-list-r-requires t c =
     (
-  sooner _ _ 0 4 c.requires.0 (for_do_on _ c.requires.1.1 c.skip.ensures c.named-head.ensures c.take-assigned.ensures
+  sooner _ _ 0 4 c.decreases (for_do_on _ c.requires.1 c.skip.ensures c.named-head.ensures c.take-assigned.ensures
       c.whole-initial.ensures c.take-to.ensures
       c.whole-bound.ensures c.maybe_constant-step.ensures c.take-body.ensures) c.take-body.ensures.fine.1
       (omega arith),
@@ -197,7 +197,7 @@ for_do-take-requires t c = omega (arith, (for-do-list-requires t c κs))
 
 pub for_do-returns : goal.for_do-returns
 for_do-returns t c =
-    for_do_does c.requires.1 c.skip.ensures _ _ c.named-head.ensures c.take-assigned.ensures c.whole-initial.ensures
+    for_do_does c.requires c.skip.ensures _ _ c.named-head.ensures c.take-assigned.ensures c.whole-initial.ensures
     c.take-to.ensures c.whole-bound.ensures
     c.maybe_constant-step.ensures c.take-body.ensures c.list-r.ensures c.take.ensures
 
@@ -205,7 +205,7 @@ pub group-list-requires : goal.group-list-requires
 group-list-requires t c = omega (arith, c.take-colon.ensures.paid (omega arith))
 
 pub group-returns : goal.group-returns
-group-returns t c = group-does _ _ c.requires.1 c.labels-head.ensures c.take-colon.ensures c.list.ensures
+group-returns t c = group-does _ _ c.requires c.labels-head.ensures c.take-colon.ensures c.list.ensures
 
 pub groups-loop-memory-init : goal.groups-loop-memory-init
 groups-loop-memory-init t c = (omega arith, refl, groups_start _ _ _ _ _)
@@ -214,33 +214,33 @@ pub groups-loop-memory-smaller : goal.groups-loop-memory-smaller
 groups-loop-memory-smaller t c =
     let q = gone_on _ _ _ (constant-ahead _ _ _ c.kind.ensures
     c.starts_constant.ensures c.loop-memory-test.true) (le_refl _)
-    c.group-r-in-loop-memory.ensures.fine.1 c.group-r-in-loop-memory.ensures.on.0 in omega arith
+    c.group-r-in-loop-memory.ensures.fine.1 c.group-r-in-loop-memory.ensures.on in omega arith
 
 pub groups-loop-memory-preserved : goal.groups-loop-memory-preserved
 groups-loop-memory-preserved t c =
     (
   omega arith,
   omega arith,
-  groups-turn _ _ (le_trans c.requires.1.0 c.group-r.ensures.fine.2) c.loop-memory.invariant.2 c.kind.ensures
-      c.starts_constant.ensures c.loop-memory-test.true c.group-r-in-loop-memory.ensures.on.1 c.group-r-in-loop-memory.ensures.on.0,
+  groups-turn _ _ (le_trans c.requires.0 c.group-r.ensures.fine.2) c.loop-memory.invariant.2 c.kind.ensures
+      c.starts_constant.ensures c.loop-memory-test.true c.group-r-in-loop-memory.ensures.means c.group-r-in-loop-memory.ensures.on,
 )
 
 pub groups-returns : goal.groups-returns
 groups-returns t c =
-    record { fine = omega arith; means = groups_first _ _ (le_trans c.requires.1.0 c.requires.1.2) (le_trans c.requires.1.0 c.group-r.ensures.fine.2)
-      c.group-r.ensures.on.1 c.group-r.ensures.on.0
-      (groups_done _ _ (le_trans c.requires.1.0 c.group-r.ensures.fine.2) c.loop-memory.invariant.2 c.kind.ensures
+    record { fine = omega arith; means = groups_first _ _ (le_trans c.requires.0 c.requires.2) (le_trans c.requires.0 c.group-r.ensures.fine.2)
+      c.group-r.ensures.means c.group-r.ensures.on
+      (groups_done _ _ (le_trans c.requires.0 c.group-r.ensures.fine.2) c.loop-memory.invariant.2 c.kind.ensures
       c.starts_constant.ensures c.loop-memory-test.false c.otherwise.ensures.means) }
 
 pub if_then-write-head-requires : goal.if_then-write-head-requires
-if_then-write-head-requires t c = omega (arith, passed _ _ c.skip.ensures c.requires.1.1)
+if_then-write-head-requires t c = omega (arith, passed _ _ c.skip.ensures c.requires.1)
 
 pub if_then-branches-r-requires : goal.if_then-branches-r-requires
 if_then-branches-r-requires t c =
     omega (
   arith,
   passed _ _ c.skip.ensures
-      c.requires.1.1,
+      c.requires.1,
   longer
       c.args.count _ c.write-head.ensures.0,
 )
@@ -249,7 +249,7 @@ pub if_then-take-requires : goal.if_then-take-requires
 if_then-take-requires t c = omega (arith, (if-then-branches-requires t c κs))
 
 pub if_then-returns : goal.if_then-returns
-if_then-returns t c = if_then_does c.requires.1 c.skip.ensures _ _ c.write-head.ensures c.branches-r.ensures c.take.ensures
+if_then-returns t c = if_then_does c.requires c.skip.ensures _ _ c.write-head.ensures c.branches-r.ensures c.take.ensures
 
 pub list-loop-memory-init : goal.list-loop-memory-init
 list-loop-memory-init t c = (omega arith, refl, list_start _ _ _ _ _)
@@ -267,8 +267,8 @@ list-loop-memory-preserved t c =
     (
   omega arith,
   omega arith,
-  list-turn _ _ (le_trans c.requires.1.0 c.requires.1.2) c.loop-memory.invariant.2 c.kind.ensures
-      c.starts_element.ensures c.loop-memory-test.true c.element-r.ensures.on.1 c.element-r.ensures.on.0,
+  list-turn _ _ (le_trans c.requires.0 c.requires.2) c.loop-memory.invariant.2 c.kind.ensures
+      c.starts_element.ensures c.loop-memory-test.true c.element-r.ensures.means c.element-r.ensures.on,
 )
 
 pub list-returns : goal.list-returns
@@ -277,7 +277,7 @@ list-returns t c =
     arith,
     longer c.args.count _
         c.write.ensures.0,
-  ); means = list_done _ _ (le_trans c.requires.1.0 c.requires.1.2) c.loop-memory.invariant.2 c.kind.ensures
+  ); means = list_done _ _ (le_trans c.requires.0 c.requires.2) c.loop-memory.invariant.2 c.kind.ensures
       c.starts_element.ensures c.loop-memory-test.false c.write.ensures }
 
 pub otherwise-write-other-requires : goal.otherwise-write-other-requires
@@ -295,7 +295,7 @@ otherwise-list-requires t c =
 
 pub otherwise-returns-then-kind-eq-ELSE : goal.otherwise-returns-then-kind-eq-ELSE
 otherwise-returns-then-kind-eq-ELSE t c =
-    otherwise-does _ _ _ c.requires.1 c.kind.ensures c.if-kind-eq-ELSE.true c.skip.ensures c.write-other.ensures
+    otherwise-does _ _ _ c.requires c.kind.ensures c.if-kind-eq-ELSE.true c.skip.ensures c.write-other.ensures
     c.list.ensures
 
 pub otherwise-returns : goal.otherwise-returns
@@ -304,18 +304,18 @@ otherwise-returns t c =
     arith,
     longer c.args.count _
         c.write.ensures.0,
-  ); means = λ f h. otherwise-none-means _ f _ _ (le_trans c.requires.1.0 c.requires.1.2) c.kind.ensures c.if-kind-eq-ELSE.false
+  ); means = λ f h. otherwise-none-means _ f _ _ (le_trans c.requires.0 c.requires.2) c.kind.ensures c.if-kind-eq-ELSE.false
       c.write.ensures }
 
 pub repeat_until-write-head-requires : goal.repeat_until-write-head-requires
-repeat_until-write-head-requires t c = omega (arith, passed _ _ c.skip.ensures c.requires.1.1)
+repeat_until-write-head-requires t c = omega (arith, passed _ _ c.skip.ensures c.requires.1)
 
 pub repeat_until-list-body-requires : goal.repeat_until-list-body-requires
 repeat_until-list-body-requires t c =
     omega (
   arith,
   passed _ _ c.skip.ensures
-      c.requires.1.1,
+      c.requires.1,
   longer
       c.args.count _ c.write-head.ensures.0,
 )
@@ -331,32 +331,32 @@ repeat_until-take-requires t c = omega (arith, (repeat-until-whole-requires t c 
 
 pub repeat_until-returns : goal.repeat_until-returns
 repeat_until-returns t c =
-    repeat_until_does c.requires.1 c.skip.ensures _ _ c.write-head.ensures c.list-body.ensures c.take-until.ensures
+    repeat_until_does c.requires c.skip.ensures _ _ c.write-head.ensures c.list-body.ensures c.take-until.ensures
     c.whole-r.ensures c.take.ensures
 
 pub statement-write-requires : goal.statement-write-requires
-statement-write-requires t c = omega (arith, passed _ _ c.skip.ensures c.requires.1.1)
+statement-write-requires t c = omega (arith, passed _ _ c.skip.ensures c.requires.1)
 
 pub statement-returns-in-1 : goal.statement-returns-in-1
-statement-returns-in-1 t c = statement-assignment-does _ _ c.requires.1 c.next-token.ensures c.in-1.is c.assignment.ensures
+statement-returns-in-1 t c = statement-assignment-does _ _ c.requires c.next-token.ensures c.in-1.is c.assignment.ensures
 
 pub statement-returns-in-18 : goal.statement-returns-in-18
-statement-returns-in-18 t c = statement-exit-does _ _ c.requires.1 c.next-token.ensures c.in-18.is c.skip.ensures c.write.ensures
+statement-returns-in-18 t c = statement-exit-does _ _ c.requires c.next-token.ensures c.in-18.is c.skip.ensures c.write.ensures
 
 pub statement-returns-in_default : goal.statement-returns-in_default
 statement-returns-in_default t c =
-    statement-compound-does _ _ c.requires.1 c.next-token.ensures c.in_default.in_default-own.rest.0.1 c.in_default.in_default-own.rest.1
+    statement-compound-does _ _ c.requires c.next-token.ensures c.in_default.in_default-own.rest.0.1 c.in_default.in_default-own.rest.1
     c.compound.ensures
 
 pub while_do-write-head-requires : goal.while_do-write-head-requires
-while_do-write-head-requires t c = omega (arith, passed _ _ c.skip.ensures c.requires.1.1)
+while_do-write-head-requires t c = omega (arith, passed _ _ c.skip.ensures c.requires.1)
 
 pub while_do-whole-condition-requires : goal.while_do-whole-condition-requires
 while_do-whole-condition-requires t c =
     omega (
   arith,
   passed _ _ c.skip.ensures
-      c.requires.1.1,
+      c.requires.1,
   longer
       c.args.count _ c.write-head.ensures.0,
 )
@@ -369,7 +369,7 @@ while_do-list-r-requires t c =
     omega (
   arith,
   passed _ _ c.skip.ensures
-      c.requires.1.1,
+      c.requires.1,
   longer
       c.args.count _
       c.write-head.ensures.0,
@@ -380,5 +380,5 @@ while_do-take-requires t c = omega (arith, (while-do-list-requires t c κs))
 
 pub while_do-returns : goal.while_do-returns
 while_do-returns t c =
-    while_do_does c.requires.1 c.skip.ensures _ _ c.write-head.ensures c.whole-condition.ensures c.take-body.ensures
+    while_do_does c.requires c.skip.ensures _ _ c.write-head.ensures c.whole-condition.ensures c.take-body.ensures
     c.list-r.ensures c.take.ensures
