@@ -1,7 +1,8 @@
 use mathlib.Core.Path.{refl}
-use Prim.Native.Nat.{◌-◌}
 use native.Mathlib.Nat.{le_refl, le_trans}
 use native.Mathlib.Omega.{arith}
+use lib.ListN.{length}
+use Rattle.parse.specs.Steps.{Fits}
 use Rattle.parse.proofs.Rooms.{passed, longer, refused, gone_on, sooner}
 use Rattle.parse.proofs.Skipping.{past}
 use Rattle.parse.proofs.Productions.{otherwise-none-means, compound-deep-means, compound-many-means, compound_if_means, compound-case-means, compound_for_means, compound_while_means, compound-repeat-means, element_semi_means}
@@ -11,23 +12,19 @@ use Rattle.parse.proofs.statements.+branch_branches_case_of_compound_element_for
 
 pub branch-whole-condition-requires : goal.branch-whole-condition-requires
 branch-whole-condition-requires t c =
-    omega (
-  arith,
-  longer c.args.count _
-      c.write-head.ensures.0,
-)
+    let head = longer c.args.count _ c.write-head.ensures.0 in
+    omega arith
 
 pub branch-take-then-requires : goal.branch-take-then-requires
-branch-take-then-requires t c = omega (arith, (branch-whole-requires t c κs))
+branch-take-then-requires t c =
+    let head = longer c.args.count _ c.write-head.ensures.0 in
+    omega arith
 
 pub branch-list-requires : goal.branch-list-requires
 branch-list-requires t c =
-    omega (
-  arith,
-  longer c.args.count _
-      c.write-head.ensures.0,
-  c.take-then.ensures.paid (omega arith),
-)
+    let head = longer c.args.count _ c.write-head.ensures.0 in
+    let paid = c.take-then.ensures.paid (omega arith) in
+    omega arith
 
 pub branch-returns : goal.branch-returns
 branch-returns t c = branch-does _ _ c.requires c.write-head.ensures c.whole-condition.ensures c.take-then.ensures c.list.ensures
@@ -36,29 +33,24 @@ pub branches-loop-memory-init : goal.branches-loop-memory-init
 branches-loop-memory-init t c = (omega arith, refl, branches_start _ _ _ _ _)
 
 pub branches-branch-r-requires-in-loop-memory : goal.branches-branch-r-requires-in-loop-memory
-branches-branch-r-requires-in-loop-memory t c = omega (arith, past _ _ _ c.kind.ensures (omega arith) c.skip.ensures)
+branches-branch-r-requires-in-loop-memory t c =
+    let word = past _ _ _ c.kind.ensures (omega arith) c.skip.ensures in
+    omega arith
 
 pub branches-loop-memory-smaller : goal.branches-loop-memory-smaller
 branches-loop-memory-smaller t c =
-    omega (
-  arith,
-  past _ _ _ c.kind.ensures (omega arith)
-      c.skip.ensures,
-)
+    let word = past _ _ _ c.kind.ensures (omega arith) c.skip.ensures in
+    omega arith
 
 pub branches-loop-memory-preserved : goal.branches-loop-memory-preserved
 branches-loop-memory-preserved t c =
+    let word = past _ _ _ c.kind.ensures (omega arith) c.skip.ensures in
     (
-  omega (
-    arith,
-    past _ _ _ c.kind.ensures (omega arith)
-        c.skip.ensures,
-  ),
-  omega arith,
-  branches-turn _ _ (le_trans c.requires.0 c.branch-r.ensures.fine.2) (le_trans c.requires.0 c.loop-memory.invariant.0.2)
-      c.loop-memory.invariant.2 c.kind.ensures c.loop-memory-test.true
-      c.skip.ensures c.branch-r-in-loop-memory.ensures.means c.branch-r-in-loop-memory.ensures.fine.0,
-)
+      omega arith,
+      omega arith,
+      branches-turn _ _ (le_trans c.requires.0 c.branch-r.ensures.fine.2) (le_trans c.requires.0 c.loop-memory.invariant.0.2) c.loop-memory.invariant.2
+          c.kind.ensures c.loop-memory-test.true c.skip.ensures c.branch-r-in-loop-memory.ensures.means c.branch-r-in-loop-memory.ensures.fine.0,
+    )
 
 pub branches-returns : goal.branches-returns
 branches-returns t c =
@@ -71,30 +63,27 @@ case_of-write-head-requires t c = omega (arith, passed _ _ c.skip.ensures c.requ
 
 pub case_of-whole-selector-requires : goal.case_of-whole-selector-requires
 case_of-whole-selector-requires t c =
-    omega (
-  arith,
-  passed _ _ c.skip.ensures
-      c.requires.1,
-  longer
-      c.args.count _ c.write-head.ensures.0,
-)
+    let one = passed _ _ c.skip.ensures c.requires.1 in
+    let head = longer c.args.count _ c.write-head.ensures.0 in
+    omega arith
 
 pub case_of-take-of-requires : goal.case_of-take-of-requires
-case_of-take-of-requires t c = omega (arith, (case-of-whole-requires t c κs))
+case_of-take-of-requires t c =
+    let one = passed _ _ c.skip.ensures c.requires.1 in
+    let head = longer c.args.count _ c.write-head.ensures.0 in
+    omega arith
 
 pub case_of-groups-r-requires : goal.case_of-groups-r-requires
 case_of-groups-r-requires t c =
-    omega (
-  arith,
-  passed _ _ c.skip.ensures
-      c.requires.1,
-  longer
-      c.args.count _
-      c.write-head.ensures.0,
-)
+    let one = passed _ _ c.skip.ensures c.requires.1 in
+    let head = longer c.args.count _ c.write-head.ensures.0 in
+    omega arith
 
 pub case_of-take-requires : goal.case_of-take-requires
-case_of-take-requires t c = omega (arith, (case-of-groups-requires t c κs))
+case_of-take-requires t c =
+    let one = passed _ _ c.skip.ensures c.requires.1 in
+    let head = longer c.args.count _ c.write-head.ensures.0 in
+    omega arith
 
 pub case_of-returns : goal.case_of-returns
 case_of-returns t c =
@@ -134,24 +123,16 @@ compound-returns-in-33 t c =
 pub compound-returns-in_default : goal.compound-returns-in_default
 compound-returns-in_default t c =
     record { fine = c.repeat_until.ensures.fine; means = λ f h. compound-repeat-means f _ _ (le_trans c.requires.0.0 c.requires.0.2) c.next-token.ensures c.if-nesting-ge16.false
-          c.in_default.in_default-own.rest.0.0.0.1 c.in_default.in_default-own.rest.0.0.1
-          c.in_default.in_default-own.rest.0.1 c.in_default.in_default-own.rest.1 (c.repeat_until.ensures.means f h) }
+          (λ e. grind arith) (λ e. grind arith) (λ e. grind arith) (λ e. grind arith) (c.repeat_until.ensures.means f h) }
 
 pub element-returns-then-kind-eq-SEMI : goal.element-returns-then-kind-eq-SEMI
 element-returns-then-kind-eq-SEMI t c =
-    (
-  omega (arith, passed _ _ c.skip.ensures c.requires.1),
-  (
-    omega (
-      arith,
-      passed _ _
-          c.skip.ensures
-          c.requires.1,
-    ),
-    λ f h. element_semi_means f _ _ (le_trans c.requires.0.0 c.requires.0.2) c.kind.ensures c.if-kind-eq-SEMI.true
-        c.skip.ensures,
-  ),
-)
+    let one = passed _ _ c.skip.ensures c.requires.1 in
+    record {
+      fine = omega arith;
+      on = omega arith;
+      means = λ f h. element_semi_means f _ _ (le_trans c.requires.0.0 c.requires.0.2) c.kind.ensures c.if-kind-eq-SEMI.true c.skip.ensures;
+    }
 
 pub element-returns : goal.element-returns
 element-returns t c = element-does _ _ c.requires c.kind.ensures c.if-kind-eq-SEMI.false c.statement-r.ensures c.take.ensures
@@ -160,40 +141,64 @@ pub for_do-named-head-requires : goal.for_do-named-head-requires
 for_do-named-head-requires t c = omega (arith, passed _ _ c.skip.ensures c.requires.1)
 
 pub for_do-take-assigned-requires : goal.for_do-take-assigned-requires
-for_do-take-assigned-requires t c = omega (arith, (for-do-named-requires t c κs))
+for_do-take-assigned-requires t c =
+    let one = passed _ _ c.skip.ensures c.requires.1 in
+    omega arith
 
 pub for_do-whole-initial-requires : goal.for_do-whole-initial-requires
-for_do-whole-initial-requires t c = omega (arith, taken _ (omega arith) (for-do-take-requires t c κs) c.take-assigned.ensures)
+for_do-whole-initial-requires t c =
+    let one = passed _ _ c.skip.ensures c.requires.1 in
+    let behind-assign : Fits c.args.count (length c.args.memory.now) 6 c.take-assigned.result = taken _ (omega arith) (omega arith) c.take-assigned.ensures in
+    omega arith
 
 pub for_do-take-to-requires : goal.for_do-take-to-requires
-for_do-take-to-requires t c = omega (arith, (for-do-whole-requires t c κs))
+for_do-take-to-requires t c =
+    let one = passed _ _ c.skip.ensures c.requires.1 in
+    let behind-assign : Fits c.args.count (length c.args.memory.now) 6 c.take-assigned.result = taken _ (omega arith) (omega arith) c.take-assigned.ensures in
+    omega arith
 
 pub for_do-whole-bound-requires : goal.for_do-whole-bound-requires
-for_do-whole-bound-requires t c = omega (arith, taken _ (omega arith) (for-do-take-requires-2 t c κs) c.take-to.ensures)
+for_do-whole-bound-requires t c =
+    let one = passed _ _ c.skip.ensures c.requires.1 in
+    let behind-assign : Fits c.args.count (length c.args.memory.now) 6 c.take-assigned.result = taken _ (omega arith) (omega arith) c.take-assigned.ensures in
+    let behind-to : Fits c.args.count (length c.args.memory.now) 6 c.take-to.result = taken _ (omega arith) (omega arith) c.take-to.ensures in
+    omega arith
 
 pub for_do-maybe_constant-step-requires : goal.for_do-maybe_constant-step-requires
 for_do-maybe_constant-step-requires t c =
-    omega (
-  arith,
-  taken _ (omega arith) (for-do-take-requires-2 t c κs)
-      c.take-to.ensures,
-)
+    let one = passed _ _ c.skip.ensures c.requires.1 in
+    let behind-assign : Fits c.args.count (length c.args.memory.now) 6 c.take-assigned.result = taken _ (omega arith) (omega arith) c.take-assigned.ensures in
+    let behind-to : Fits c.args.count (length c.args.memory.now) 6 c.take-to.result = taken _ (omega arith) (omega arith) c.take-to.ensures in
+    omega arith
 
 pub for_do-take-body-requires : goal.for_do-take-body-requires
-for_do-take-body-requires t c = omega (arith, (for-do-maybe-constant-requires t c κs))
+for_do-take-body-requires t c =
+    let one = passed _ _ c.skip.ensures c.requires.1 in
+    let behind-assign : Fits c.args.count (length c.args.memory.now) 6 c.take-assigned.result = taken _ (omega arith) (omega arith) c.take-assigned.ensures in
+    let behind-to : Fits c.args.count (length c.args.memory.now) 6 c.take-to.result = taken _ (omega arith) (omega arith) c.take-to.ensures in
+    omega arith
 
 pub for_do-list-r-requires : goal.for_do-list-r-requires
 for_do-list-r-requires t c =
+    let one = passed _ _ c.skip.ensures c.requires.1 in
+    let behind-assign : Fits c.args.count (length c.args.memory.now) 6 c.take-assigned.result = taken _ (omega arith) (omega arith) c.take-assigned.ensures in
+    let behind-to : Fits c.args.count (length c.args.memory.now) 6 c.take-to.result = taken _ (omega arith) (omega arith) c.take-to.ensures in
+    let behind-do : Fits c.args.count (length c.args.memory.now) 6 c.take-body.result = taken _ (omega arith) (omega arith) c.take-body.ensures in
     (
-  sooner _ _ 0 4 c.decreases (for_do_on _ c.requires.1 c.skip.ensures c.named-head.ensures c.take-assigned.ensures
-      c.whole-initial.ensures c.take-to.ensures
-      c.whole-bound.ensures c.maybe_constant-step.ensures c.take-body.ensures) c.take-body.ensures.fine.1
-      (omega arith),
-  omega (arith, taken _ (omega arith) (for-do-take-requires-3 t c κs) c.take-body.ensures),
-)
+      sooner _ _ 0 4 c.decreases
+          (for_do_on _ c.requires.1 c.skip.ensures c.named-head.ensures c.take-assigned.ensures c.whole-initial.ensures c.take-to.ensures c.whole-bound.ensures
+          c.maybe_constant-step.ensures c.take-body.ensures)
+          c.take-body.ensures.fine.1 (omega arith),
+      omega arith,
+    )
 
 pub for_do-take-requires : goal.for_do-take-requires
-for_do-take-requires t c = omega (arith, (for-do-list-requires t c κs))
+for_do-take-requires t c =
+    let one = passed _ _ c.skip.ensures c.requires.1 in
+    let behind-assign : Fits c.args.count (length c.args.memory.now) 6 c.take-assigned.result = taken _ (omega arith) (omega arith) c.take-assigned.ensures in
+    let behind-to : Fits c.args.count (length c.args.memory.now) 6 c.take-to.result = taken _ (omega arith) (omega arith) c.take-to.ensures in
+    let behind-do : Fits c.args.count (length c.args.memory.now) 6 c.take-body.result = taken _ (omega arith) (omega arith) c.take-body.ensures in
+    omega arith
 
 pub for_do-returns : goal.for_do-returns
 for_do-returns t c =
@@ -237,16 +242,15 @@ if_then-write-head-requires t c = omega (arith, passed _ _ c.skip.ensures c.requ
 
 pub if_then-branches-r-requires : goal.if_then-branches-r-requires
 if_then-branches-r-requires t c =
-    omega (
-  arith,
-  passed _ _ c.skip.ensures
-      c.requires.1,
-  longer
-      c.args.count _ c.write-head.ensures.0,
-)
+    let one = passed _ _ c.skip.ensures c.requires.1 in
+    let head = longer c.args.count _ c.write-head.ensures.0 in
+    omega arith
 
 pub if_then-take-requires : goal.if_then-take-requires
-if_then-take-requires t c = omega (arith, (if-then-branches-requires t c κs))
+if_then-take-requires t c =
+    let one = passed _ _ c.skip.ensures c.requires.1 in
+    let head = longer c.args.count _ c.write-head.ensures.0 in
+    omega arith
 
 pub if_then-returns : goal.if_then-returns
 if_then-returns t c = if_then_does c.requires c.skip.ensures _ _ c.write-head.ensures c.branches-r.ensures c.take.ensures
@@ -312,22 +316,29 @@ repeat_until-write-head-requires t c = omega (arith, passed _ _ c.skip.ensures c
 
 pub repeat_until-list-body-requires : goal.repeat_until-list-body-requires
 repeat_until-list-body-requires t c =
-    omega (
-  arith,
-  passed _ _ c.skip.ensures
-      c.requires.1,
-  longer
-      c.args.count _ c.write-head.ensures.0,
-)
+    let one = passed _ _ c.skip.ensures c.requires.1 in
+    let head = longer c.args.count _ c.write-head.ensures.0 in
+    omega arith
 
 pub repeat_until-take-until-requires : goal.repeat_until-take-until-requires
-repeat_until-take-until-requires t c = omega (arith, (repeat-until-list-requires t c κs))
+repeat_until-take-until-requires t c =
+    let one = passed _ _ c.skip.ensures c.requires.1 in
+    let head = longer c.args.count _ c.write-head.ensures.0 in
+    omega arith
 
 pub repeat_until-whole-r-requires : goal.repeat_until-whole-r-requires
-repeat_until-whole-r-requires t c = omega (arith, taken _ (omega arith) (repeat-until-take-requires t c κs) c.take-until.ensures)
+repeat_until-whole-r-requires t c =
+    let one = passed _ _ c.skip.ensures c.requires.1 in
+    let head = longer c.args.count _ c.write-head.ensures.0 in
+    let six : Fits c.args.count (length c.args.memory.now) 6 c.take-until.result = taken _ (omega arith) (omega arith) c.take-until.ensures in
+    omega arith
 
 pub repeat_until-take-requires : goal.repeat_until-take-requires
-repeat_until-take-requires t c = omega (arith, (repeat-until-whole-requires t c κs))
+repeat_until-take-requires t c =
+    let one = passed _ _ c.skip.ensures c.requires.1 in
+    let head = longer c.args.count _ c.write-head.ensures.0 in
+    let six : Fits c.args.count (length c.args.memory.now) 6 c.take-until.result = taken _ (omega arith) (omega arith) c.take-until.ensures in
+    omega arith
 
 pub repeat_until-returns : goal.repeat_until-returns
 repeat_until-returns t c =
@@ -345,7 +356,7 @@ statement-returns-in-18 t c = statement-exit-does _ _ c.requires c.next-token.en
 
 pub statement-returns-in_default : goal.statement-returns-in_default
 statement-returns-in_default t c =
-    statement-compound-does _ _ c.requires c.next-token.ensures c.in_default.in_default-own.rest.0.1 c.in_default.in_default-own.rest.1
+    statement-compound-does _ _ c.requires c.next-token.ensures (λ e. grind arith) (λ e. grind arith)
     c.compound.ensures
 
 pub while_do-write-head-requires : goal.while_do-write-head-requires
@@ -353,30 +364,27 @@ while_do-write-head-requires t c = omega (arith, passed _ _ c.skip.ensures c.req
 
 pub while_do-whole-condition-requires : goal.while_do-whole-condition-requires
 while_do-whole-condition-requires t c =
-    omega (
-  arith,
-  passed _ _ c.skip.ensures
-      c.requires.1,
-  longer
-      c.args.count _ c.write-head.ensures.0,
-)
+    let one = passed _ _ c.skip.ensures c.requires.1 in
+    let head = longer c.args.count _ c.write-head.ensures.0 in
+    omega arith
 
 pub while_do-take-body-requires : goal.while_do-take-body-requires
-while_do-take-body-requires t c = omega (arith, (while-do-whole-requires t c κs))
+while_do-take-body-requires t c =
+    let one = passed _ _ c.skip.ensures c.requires.1 in
+    let head = longer c.args.count _ c.write-head.ensures.0 in
+    omega arith
 
 pub while_do-list-r-requires : goal.while_do-list-r-requires
 while_do-list-r-requires t c =
-    omega (
-  arith,
-  passed _ _ c.skip.ensures
-      c.requires.1,
-  longer
-      c.args.count _
-      c.write-head.ensures.0,
-)
+    let one = passed _ _ c.skip.ensures c.requires.1 in
+    let head = longer c.args.count _ c.write-head.ensures.0 in
+    omega arith
 
 pub while_do-take-requires : goal.while_do-take-requires
-while_do-take-requires t c = omega (arith, (while-do-list-requires t c κs))
+while_do-take-requires t c =
+    let one = passed _ _ c.skip.ensures c.requires.1 in
+    let head = longer c.args.count _ c.write-head.ensures.0 in
+    omega arith
 
 pub while_do-returns : goal.while_do-returns
 while_do-returns t c =
