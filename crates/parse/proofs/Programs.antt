@@ -13,7 +13,7 @@ use Rattle.rules.specs.Kinds.{FINISH, NAME, BOOL, DINT, END_PROGRAM, END_VAR, PR
 use Rattle.rules.specs.Syntax.{Decl, on_read, ◌>>=◌, give, when, maybe, list, empty, declaration, declarations, variables, program}
 use Rattle.rules.specs.Cells.{cell, end_cell, name_cell, maybe_cells, list_cells, type_kind, decl_cells, decls_cells, tree_cells}
 use Rattle.parse.specs.Steps.{next_of, end_of, free_of, room_of, Fits, Moves, token_at, kind_at, skipped, extended, written}
-use Rattle.parse.specs.Reading.{Did, DidWith, nothing}
+use Rattle.parse.specs.Reading.{Did, DidWith}
 use Rattle.parse.specs.Parts.{declared_type, type_cell}
 use Rattle.parse.specs.declared.steps.Step.{Step}
 use Rattle.parse.specs.declared.steps.Step.TheVariants.{Ok}

@@ -1,14 +1,14 @@
 -- What functions that read statements promise, given what their calls promise, in the order of the calls. Assumes nothing.
 use mathlib.Core.Path.{◌≡◌}
 use mathlib.Core.List.{List}
-use Prim.Native.Nat.{ℕ, zero, suc, ◌+◌, ◌-◌, ◌≤◌, ◌<◌}
+use Prim.Native.Nat.{ℕ, zero, suc, ◌+◌, ◌≤◌, ◌<◌}
 use native.Mathlib.Nat.{le_trans}
 use native.Mathlib.Omega.{arith}
 use Rattle.rules.specs.Kinds.{NAME, EXIT, BY, CASE, DO, ELSE, END_CASE, END_FOR, END_IF, END_REPEAT, END_WHILE, FOR, IF, OF, REPEAT, SEMI, THEN, TO, UNTIL, WHILE, ASSIGN, COLON}
 use Rattle.rules.specs.Syntax.{take_name, maybe, expr, labels, assignment, if_then, case_of, for_do, while_do, repeat_until, one_group, statement, list, branches, groups}
 use Rattle.rules.specs.Cells.{cell, name_cell, whole_cells, maybe_cells, labels_cells, stm_cells, list_cells, branch_cells, group_cells}
 use Rattle.parse.specs.Steps.{next_of, room_of, Fits, Moves, token_at, kind_at, skipped, extended, written}
-use Rattle.parse.specs.Reading.{DidWith, nothing}
+use Rattle.parse.specs.Reading.{DidWith}
 use Rattle.parse.specs.Parts.{compound, element, element_cells, one_condition, condition_cells, one_labelled, labelled_cells, otherwise, otherwise_cells, conditions}
 use Rattle.parse.specs.declared.steps.Step.{Step}
 use Rattle.parse.specs.declared.steps.Token.{Token}

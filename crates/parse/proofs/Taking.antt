@@ -1,12 +1,11 @@
 -- Taking a token of a kind: what is left, and how far it moves. Assumes nothing.
 use mathlib.Core.Path.{◌≡◌, refl, sym, ◌∙◌}
 use mathlib.Core.List.{List}
-use Prim.Native.Nat.{ℕ, ◌*◌, ◌-◌, ◌≤◌}
+use Prim.Native.Nat.{ℕ, ◌*◌, ◌≤◌}
 use native.Mathlib.Omega.{arith}
 use Rattle.rules.specs.Syntax as S
 use Rattle.rules.specs.Syntax.{on_read, ◌>>=◌, give, when, unexpected}
 use Rattle.parse.specs.Steps.{free_of, Fits, token_at, skipped, refused_at}
-use Rattle.parse.specs.Reading.{nothing}
 use Rattle.parse.specs.declared.steps.Step.{Step}
 use Rattle.parse.specs.declared.steps.Token as Code
 use Rattle.parse.proofs.Follow.{begin, named, skips, is, isn't, unexpects, gives}

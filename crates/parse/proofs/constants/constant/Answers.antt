@@ -3,7 +3,7 @@ use mathlib.Core.Path.{◌≡◌}
 use mathlib.Core.Logic.{inl, inr}
 use Prim.Native.Nat.{◌≤◌}
 use native.Mathlib.Omega.{arith}
-use Rattle.rules.specs.Kinds.{TRUE, FALSE, MINUS, PLUS}
+use Rattle.rules.specs.Kinds.{MINUS, PLUS}
 use Rattle.parse.proofs.Moves.{wrote}
 use Rattle.parse.proofs.OneConstant.{sign_of, truth-read, signed-read, unsigned-read}
 use Rattle.parse.proofs.Skipping.{past_token}

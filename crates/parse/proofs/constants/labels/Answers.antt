@@ -21,8 +21,7 @@ loop-memory-smaller c =
 
 pub loop-memory-preserved : goal.loop-memory-preserved
 loop-memory-preserved c =
-    let comma = past _ _ _ c.kind.ensures (omega arith) c.skip.ensures in
-    (
+    let comma = past _ _ _ c.kind.ensures (omega arith) c.skip.ensures in (
       omega arith,
       omega arith,
       turns _ _ _ (omega arith) c.loop-memory.invariant.2 (omega arith) (sym c.kind.ensures ∙ c.loop-memory-test.true) c.skip.ensures c.label-r-in-loop-memory.ensures.means (omega arith),

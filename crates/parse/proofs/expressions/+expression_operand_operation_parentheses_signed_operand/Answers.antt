@@ -1,13 +1,12 @@
 use mathlib.Core.Path.{◌≡◌, refl}
-use mathlib.Core.Logic.{⊎_elim}
-use Prim.Native.Nat.{ℕ, ◌<◌, ◌≤◌, ◌-◌}
+use Prim.Native.Nat.{ℕ, ◌<◌, ◌≤◌}
 use native.Mathlib.Numerals.{add-one}
 use native.Mathlib.Omega.{arith}
 use borrow.Author.Rules.{rules}
 use Rattle.parse.proofs.Moves.{wrote}
 use Rattle.parse.proofs.Rooms.{passed, refused}
 use Rattle.parse.proofs.Skipping.{token_next}
-use Rattle.parse.proofs.Operators.{either, neither, pair}
+use Rattle.parse.proofs.Operators.{either, pair}
 use Rattle.parse.proofs.Operands.{sign-ahead, reads_word, reads-truth, reads_open, reads_none, reads-deep, reads-inner, reads-unsigned, reads-signed, reads_right}
 use Rattle.parse.proofs.Chain.{chain_start, chain_step, chain_end, operator_next}
 use Rattle.parse.proofs.expressions.+expression_operand_operation_parentheses_signed_operand.Goals as goal
@@ -54,8 +53,11 @@ operand-returns-in-43 t c = record { fine = c.parentheses.ensures.fine; means = 
 pub operand-returns-in-1 : goal.operand-returns-in-1
 operand-returns-in-1 t c =
     let a = token_next _ _ _ c.next-token.ensures (omega arith) in
-    record { fine = omega (arith, passed _ _ c.skip-in-1.ensures a, wrote c.args.count _ c.write-in-1.ensures.0); means = λ f h. reads_word (omega arith) _ c.next-token.ensures _ _ c.skip-in-1.ensures c.write-in-1.ensures
-          (pair (omega arith) (omega arith)) }
+    record {
+      fine = omega (arith, passed _ _ c.skip-in-1.ensures a, wrote c.args.count _ c.write-in-1.ensures.0);
+      means = λ f h. reads_word (omega arith) _ c.next-token.ensures _ _ c.skip-in-1.ensures c.write-in-1.ensures
+          (pair (omega arith) (omega arith));
+    }
 
 pub operand-returns-in_default : goal.operand-returns-in_default
 operand-returns-in_default t c =
@@ -76,8 +78,11 @@ operation-write-requires t c = omega (arith, passed _ _ c.skip.ensures c.require
 pub operation-returns : goal.operation-returns
 operation-returns t c =
     let one = passed _ _ c.skip.ensures c.requires.1 in
-    record { fine = omega (arith, wrote c.args.count _ c.write.ensures.0); means = λ f h. reads_right (omega arith) _ c.next-token.ensures _ f _ _ c.level_of.ensures.means c.code_of.ensures
-          c.skip.ensures (c.expression-r.ensures.means f (omega arith)) c.write.ensures }
+    record {
+      fine = omega (arith, wrote c.args.count _ c.write.ensures.0);
+      means = λ f h. reads_right (omega arith) _ c.next-token.ensures _ f _ _ c.level_of.ensures.means c.code_of.ensures
+          c.skip.ensures (c.expression-r.ensures.means f (omega arith)) c.write.ensures;
+    }
 
 pub parentheses-returns-then-nesting-ge16 : goal.parentheses-returns-then-nesting-ge16
 parentheses-returns-then-nesting-ge16 t c = record { fine = omega (arith, refused c.args.count _ _ _ c.refuse.ensures); means = λ f h. reads-deep (omega arith) _ c.next-token.ensures _ _ c.if-nesting-ge16.true c.refuse.ensures }
@@ -94,13 +99,19 @@ parentheses-write-requires t c = omega (arith, passed _ _ c.skip.ensures c.requi
 pub parentheses-returns : goal.parentheses-returns
 parentheses-returns t c =
     let one = passed _ _ c.skip.ensures c.requires.1 in
-    record { fine = omega (arith, wrote c.args.count _ c.write.ensures.0); means = λ f h. reads-inner (omega arith) _ c.next-token.ensures _ c.if-nesting-ge16.false c.skip.ensures
-          (rw (add-one c.args.nesting) at (c.expression-inner.ensures.means f (omega arith))) c.take-closed.ensures.means c.write.ensures }
+    record {
+      fine = omega (arith, wrote c.args.count _ c.write.ensures.0);
+      means = λ f h. reads-inner (omega arith) _ c.next-token.ensures _ c.if-nesting-ge16.false c.skip.ensures
+          (rw (add-one c.args.nesting) at (c.expression-inner.ensures.means f (omega arith))) c.take-closed.ensures.means c.write.ensures;
+    }
 
 pub signed_operand-returns-then-code-eq1 : goal.signed_operand-returns-then-code-eq1
 signed_operand-returns-then-code-eq1 t c =
-    record { fine = c.operand.ensures.fine; means = λ f h. reads-unsigned (omega arith) _ c.next-token.ensures _
-          (rw c.prefix_code-code.ensures at c.if-code-eq1.true) (c.operand.ensures.means f h) }
+    record {
+      fine = c.operand.ensures.fine;
+      means = λ f h. reads-unsigned (omega arith) _ c.next-token.ensures _
+          (rw c.prefix_code-code.ensures at c.if-code-eq1.true) (c.operand.ensures.means f h);
+    }
 
 pub signed_operand-operand-r-requires : goal.signed_operand-operand-r-requires
 signed_operand-operand-r-requires t c =
@@ -117,5 +128,8 @@ signed_operand-returns t c =
     let code = c.prefix_code-code.ensures in
     let sign = rw code at c.if-code-eq1.false in
     let one = passed _ _ c.skip.ensures (token_next _ _ _ c.next-token.ensures (sign-ahead _ sign)) in
-    record { fine = omega (arith, wrote c.args.count _ c.write.ensures.0); means = λ f h. reads-signed (omega arith) _ c.next-token.ensures sign c.skip.ensures
-          (c.operand-r.ensures.means f (omega arith)) (rw code at c.write.ensures) }
+    record {
+      fine = omega (arith, wrote c.args.count _ c.write.ensures.0);
+      means = λ f h. reads-signed (omega arith) _ c.next-token.ensures sign c.skip.ensures
+          (c.operand-r.ensures.means f (omega arith)) (rw code at c.write.ensures);
+    }

@@ -4,13 +4,12 @@ use Prim.Native.Nat.{ℕ}
 use native.Mathlib.Omega.{arith}
 use lib.Dec.{eqb}
 use lib.ListN.{drop}
-use borrow.Author.Rules.{rules}
 use Rattle.rules.specs.Base.{pick}
 use Rattle.rules.specs.Codes.{bin_code}
 use Rattle.rules.specs.Core.{Mul}
 use Rattle.rules.specs.Kinds.{STAR}
 use Rattle.rules.specs.Syntax.{Operator, operators, operator_of, operator}
-use Rattle.parse.proofs.Operators.{Missing, none, either, neither}
+use Rattle.parse.proofs.Operators.{Missing, none, either}
 use Rattle.parse.proofs.expressions.code_of.Goals as goal
 
 -- the code of a kind

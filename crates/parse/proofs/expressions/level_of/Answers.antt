@@ -3,7 +3,7 @@ use Prim.Native.Nat.{ℕ, ◌<◌}
 use native.Mathlib.Omega.{arith}
 use borrow.Author.Rules.{rules}
 use Rattle.rules.specs.Syntax.{operators, operator_of, operator}
-use Rattle.parse.proofs.Operators.{Missing, none, either, neither, pair}
+use Rattle.parse.proofs.Operators.{Missing, none, either, pair}
 use Rattle.parse.proofs.expressions.level_of.Goals as goal
 
 -- the level of a kind

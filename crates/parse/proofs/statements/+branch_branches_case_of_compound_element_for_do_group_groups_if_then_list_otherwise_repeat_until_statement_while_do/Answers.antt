@@ -44,8 +44,7 @@ branches-loop-memory-smaller t c =
 
 pub branches-loop-memory-preserved : goal.branches-loop-memory-preserved
 branches-loop-memory-preserved t c =
-    let word = past _ _ _ c.kind.ensures (omega arith) c.skip.ensures in
-    (
+    let word = past _ _ _ c.kind.ensures (omega arith) c.skip.ensures in (
       omega arith,
       omega arith,
       branches-turn _ _ (le_trans c.requires.0 c.branch-r.ensures.fine.2) (le_trans c.requires.0 c.loop-memory.invariant.0.2) c.loop-memory.invariant.2
@@ -54,9 +53,12 @@ branches-loop-memory-preserved t c =
 
 pub branches-returns : goal.branches-returns
 branches-returns t c =
-    record { fine = omega arith; means = branches_first _ _ (le_trans c.requires.0 c.requires.2) c.branch-r.ensures.means c.branch-r.ensures.fine.0
-      (branches_done _ _ (le_trans c.requires.0 c.branch-r.ensures.fine.2) c.loop-memory.invariant.2 c.kind.ensures
-      c.loop-memory-test.false c.otherwise.ensures.means) }
+    record {
+      fine = omega arith;
+      means = branches_first _ _ (le_trans c.requires.0 c.requires.2) c.branch-r.ensures.means c.branch-r.ensures.fine.0
+          (branches_done _ _ (le_trans c.requires.0 c.branch-r.ensures.fine.2) c.loop-memory.invariant.2 c.kind.ensures
+          c.loop-memory-test.false c.otherwise.ensures.means);
+    }
 
 pub case_of-write-head-requires : goal.case_of-write-head-requires
 case_of-write-head-requires t c = omega (arith, passed _ _ c.skip.ensures c.requires.1)
@@ -92,38 +94,59 @@ case_of-returns t c =
 
 pub compound-returns-then-nesting-ge16 : goal.compound-returns-then-nesting-ge16
 compound-returns-then-nesting-ge16 t c =
-    record { fine = omega (arith, refused c.args.count _ _ _ c.refuse.ensures); means = λ f h. compound-deep-means f _ _ (le_trans c.requires.0.0 c.requires.0.2) c.next-token.ensures c.if-nesting-ge16.true
-      c.refuse.ensures }
+    record {
+      fine = omega (arith, refused c.args.count _ _ _ c.refuse.ensures);
+      means = λ f h. compound-deep-means f _ _ (le_trans c.requires.0.0 c.requires.0.2) c.next-token.ensures c.if-nesting-ge16.true
+          c.refuse.ensures;
+    }
 
 pub compound-returns-then-fors-ge8 : goal.compound-returns-then-fors-ge8
 compound-returns-then-fors-ge8 t c =
-    record { fine = omega (arith, refused c.args.count _ _ _ c.refuse-then-fors-ge8.ensures); means = λ f h. compound-many-means f _ _ (le_trans c.requires.0.0 c.requires.0.2) c.next-token.ensures c.if-nesting-ge16.false
-      c.in-20.is c.if-fors-ge8.true c.refuse-then-fors-ge8.ensures }
+    record {
+      fine = omega (arith, refused c.args.count _ _ _ c.refuse-then-fors-ge8.ensures);
+      means = λ f h. compound-many-means f _ _ (le_trans c.requires.0.0 c.requires.0.2) c.next-token.ensures c.if-nesting-ge16.false
+          c.in-20.is c.if-fors-ge8.true c.refuse-then-fors-ge8.ensures;
+    }
 
 pub compound-returns-in-21 : goal.compound-returns-in-21
 compound-returns-in-21 t c =
-    record { fine = c.if_then.ensures.fine; means = λ f h. compound_if_means f _ _ (le_trans c.requires.0.0 c.requires.0.2) c.next-token.ensures
-          c.if-nesting-ge16.false c.in-21.is (c.if_then.ensures.means f h) }
+    record {
+      fine = c.if_then.ensures.fine;
+      means = λ f h. compound_if_means f _ _ (le_trans c.requires.0.0 c.requires.0.2) c.next-token.ensures
+          c.if-nesting-ge16.false c.in-21.is (c.if_then.ensures.means f h);
+    }
 
 pub compound-returns-in-6 : goal.compound-returns-in-6
 compound-returns-in-6 t c =
-    record { fine = c.case_of.ensures.fine; means = λ f h. compound-case-means f _ _ (le_trans c.requires.0.0 c.requires.0.2) c.next-token.ensures
-          c.if-nesting-ge16.false c.in-6.is (c.case_of.ensures.means f h) }
+    record {
+      fine = c.case_of.ensures.fine;
+      means = λ f h. compound-case-means f _ _ (le_trans c.requires.0.0 c.requires.0.2) c.next-token.ensures
+          c.if-nesting-ge16.false c.in-6.is (c.case_of.ensures.means f h);
+    }
 
 pub compound-returns-else-fors-ge8 : goal.compound-returns-else-fors-ge8
 compound-returns-else-fors-ge8 t c =
-    record { fine = c.for_do.ensures.fine; means = λ f h. compound_for_means f _ _ (le_trans c.requires.0.0 c.requires.0.2) c.next-token.ensures c.if-nesting-ge16.false
-          c.in-20.is c.if-fors-ge8.false (c.for_do.ensures.means f h) }
+    record {
+      fine = c.for_do.ensures.fine;
+      means = λ f h. compound_for_means f _ _ (le_trans c.requires.0.0 c.requires.0.2) c.next-token.ensures c.if-nesting-ge16.false
+          c.in-20.is c.if-fors-ge8.false (c.for_do.ensures.means f h);
+    }
 
 pub compound-returns-in-33 : goal.compound-returns-in-33
 compound-returns-in-33 t c =
-    record { fine = c.while_do.ensures.fine; means = λ f h. compound_while_means f _ _ (le_trans c.requires.0.0 c.requires.0.2)
-          c.next-token.ensures c.if-nesting-ge16.false c.in-33.is (c.while_do.ensures.means f h) }
+    record {
+      fine = c.while_do.ensures.fine;
+      means = λ f h. compound_while_means f _ _ (le_trans c.requires.0.0 c.requires.0.2)
+          c.next-token.ensures c.if-nesting-ge16.false c.in-33.is (c.while_do.ensures.means f h);
+    }
 
 pub compound-returns-in_default : goal.compound-returns-in_default
 compound-returns-in_default t c =
-    record { fine = c.repeat_until.ensures.fine; means = λ f h. compound-repeat-means f _ _ (le_trans c.requires.0.0 c.requires.0.2) c.next-token.ensures c.if-nesting-ge16.false
-          (λ e. grind arith) (λ e. grind arith) (λ e. grind arith) (λ e. grind arith) (c.repeat_until.ensures.means f h) }
+    record {
+      fine = c.repeat_until.ensures.fine;
+      means = λ f h. compound-repeat-means f _ _ (le_trans c.requires.0.0 c.requires.0.2) c.next-token.ensures c.if-nesting-ge16.false
+          (λ e. grind arith) (λ e. grind arith) (λ e. grind arith) (λ e. grind arith) (c.repeat_until.ensures.means f h);
+    }
 
 pub element-returns-then-kind-eq-SEMI : goal.element-returns-then-kind-eq-SEMI
 element-returns-then-kind-eq-SEMI t c =
@@ -183,8 +206,7 @@ for_do-list-r-requires t c =
     let one = passed _ _ c.skip.ensures c.requires.1 in
     let behind-assign : Fits c.args.count (length c.args.memory.now) 6 c.take-assigned.result = taken _ (omega arith) (omega arith) c.take-assigned.ensures in
     let behind-to : Fits c.args.count (length c.args.memory.now) 6 c.take-to.result = taken _ (omega arith) (omega arith) c.take-to.ensures in
-    let behind-do : Fits c.args.count (length c.args.memory.now) 6 c.take-body.result = taken _ (omega arith) (omega arith) c.take-body.ensures in
-    (
+    let behind-do : Fits c.args.count (length c.args.memory.now) 6 c.take-body.result = taken _ (omega arith) (omega arith) c.take-body.ensures in (
       sooner _ _ 0 4 c.decreases
           (for_do_on _ c.requires.1 c.skip.ensures c.named-head.ensures c.take-assigned.ensures c.whole-initial.ensures c.take-to.ensures c.whole-bound.ensures
           c.maybe_constant-step.ensures c.take-body.ensures)
@@ -222,8 +244,7 @@ groups-loop-memory-smaller t c =
     c.group-r-in-loop-memory.ensures.fine.1 c.group-r-in-loop-memory.ensures.on in omega arith
 
 pub groups-loop-memory-preserved : goal.groups-loop-memory-preserved
-groups-loop-memory-preserved t c =
-    (
+groups-loop-memory-preserved t c = (
   omega arith,
   omega arith,
   groups-turn _ _ (le_trans c.requires.0 c.group-r.ensures.fine.2) c.loop-memory.invariant.2 c.kind.ensures
@@ -232,10 +253,13 @@ groups-loop-memory-preserved t c =
 
 pub groups-returns : goal.groups-returns
 groups-returns t c =
-    record { fine = omega arith; means = groups_first _ _ (le_trans c.requires.0 c.requires.2) (le_trans c.requires.0 c.group-r.ensures.fine.2)
-      c.group-r.ensures.means c.group-r.ensures.on
-      (groups_done _ _ (le_trans c.requires.0 c.group-r.ensures.fine.2) c.loop-memory.invariant.2 c.kind.ensures
-      c.starts_constant.ensures c.loop-memory-test.false c.otherwise.ensures.means) }
+    record {
+      fine = omega arith;
+      means = groups_first _ _ (le_trans c.requires.0 c.requires.2) (le_trans c.requires.0 c.group-r.ensures.fine.2)
+          c.group-r.ensures.means c.group-r.ensures.on
+          (groups_done _ _ (le_trans c.requires.0 c.group-r.ensures.fine.2) c.loop-memory.invariant.2 c.kind.ensures
+          c.starts_constant.ensures c.loop-memory-test.false c.otherwise.ensures.means);
+    }
 
 pub if_then-write-head-requires : goal.if_then-write-head-requires
 if_then-write-head-requires t c = omega (arith, passed _ _ c.skip.ensures c.requires.1)
@@ -261,14 +285,13 @@ list-loop-memory-init t c = (omega arith, refl, list_start _ _ _ _ _)
 pub list-element-r-requires : goal.list-element-r-requires
 list-element-r-requires t c =
     omega (
-  arith,
-  element-ahead _ _ _ c.kind.ensures c.starts_element.ensures
-      c.loop-memory-test.true,
-)
+      arith,
+      element-ahead _ _ _ c.kind.ensures c.starts_element.ensures
+          c.loop-memory-test.true,
+    )
 
 pub list-loop-memory-preserved : goal.list-loop-memory-preserved
-list-loop-memory-preserved t c =
-    (
+list-loop-memory-preserved t c = (
   omega arith,
   omega arith,
   list-turn _ _ (le_trans c.requires.0 c.requires.2) c.loop-memory.invariant.2 c.kind.ensures
@@ -277,12 +300,15 @@ list-loop-memory-preserved t c =
 
 pub list-returns : goal.list-returns
 list-returns t c =
-    record { fine = omega (
-    arith,
-    longer c.args.count _
-        c.write.ensures.0,
-  ); means = list_done _ _ (le_trans c.requires.0 c.requires.2) c.loop-memory.invariant.2 c.kind.ensures
-      c.starts_element.ensures c.loop-memory-test.false c.write.ensures }
+    record {
+      fine = omega (
+        arith,
+        longer c.args.count _
+            c.write.ensures.0,
+      );
+      means = list_done _ _ (le_trans c.requires.0 c.requires.2) c.loop-memory.invariant.2 c.kind.ensures
+          c.starts_element.ensures c.loop-memory-test.false c.write.ensures;
+    }
 
 pub otherwise-write-other-requires : goal.otherwise-write-other-requires
 otherwise-write-other-requires t c = omega (arith, past _ _ _ c.kind.ensures (omega arith) c.skip.ensures)
@@ -290,12 +316,12 @@ otherwise-write-other-requires t c = omega (arith, past _ _ _ c.kind.ensures (om
 pub otherwise-list-requires : goal.otherwise-list-requires
 otherwise-list-requires t c =
     omega (
-  arith,
-  past _ _ _ c.kind.ensures (omega arith)
-      c.skip.ensures,
-  longer
-      c.args.count _ c.write-other.ensures.0,
-)
+      arith,
+      past _ _ _ c.kind.ensures (omega arith)
+          c.skip.ensures,
+      longer
+          c.args.count _ c.write-other.ensures.0,
+    )
 
 pub otherwise-returns-then-kind-eq-ELSE : goal.otherwise-returns-then-kind-eq-ELSE
 otherwise-returns-then-kind-eq-ELSE t c =
@@ -304,12 +330,15 @@ otherwise-returns-then-kind-eq-ELSE t c =
 
 pub otherwise-returns : goal.otherwise-returns
 otherwise-returns t c =
-    record { fine = omega (
-    arith,
-    longer c.args.count _
-        c.write.ensures.0,
-  ); means = λ f h. otherwise-none-means _ f _ _ (le_trans c.requires.0 c.requires.2) c.kind.ensures c.if-kind-eq-ELSE.false
-      c.write.ensures }
+    record {
+      fine = omega (
+        arith,
+        longer c.args.count _
+            c.write.ensures.0,
+      );
+      means = λ f h. otherwise-none-means _ f _ _ (le_trans c.requires.0 c.requires.2) c.kind.ensures c.if-kind-eq-ELSE.false
+          c.write.ensures;
+    }
 
 pub repeat_until-write-head-requires : goal.repeat_until-write-head-requires
 repeat_until-write-head-requires t c = omega (arith, passed _ _ c.skip.ensures c.requires.1)

@@ -4,7 +4,6 @@ use mathlib.Core.List.{[], ◌∷◌}
 use mathlib.Core.Logic.{inl, inr}
 use Prim.Native.Nat.{ℕ, ◌≤◌}
 use native.Mathlib.Omega.{arith}
-use borrow.Author.Rules.{rules}
 use lib.Dec.{eqb}
 use borrow.Author.Tests.{eqb-true, eqb-false, ne_eqb}
 use types.Run.{OneOf}
