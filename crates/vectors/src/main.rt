@@ -8,10 +8,13 @@ mod texts;
 mod trees;
 
 use answers::Buffer;
-use libc::STDIN_FILENO;
+use std::io::Read;
 
 // The longest line that is read: more than the longest image or text and the longest table take.
 const LONGEST: usize = 40000;
+
+// How many bytes are read at once.
+const CHUNK: usize = 32768;
 
 type Line = [u8; LONGEST];
 
@@ -35,20 +38,26 @@ fn keep(line: &mut Line, held: usize, byte: u8) -> usize {
 }
 
 // The line that was kept is answered.
-fn answer_held(line: &[u8], held: usize, out: &mut Buffer, waiting: usize) -> usize {
+fn answer_held(
+    rt: &impl Print,
+    line: &[u8],
+    held: usize,
+    out: &mut Buffer,
+    waiting: usize,
+) -> usize {
     if held <= line.len() {
-        return requests::answer(&line[..held], out, waiting);
+        return requests::answer(rt, &line[..held], out, waiting);
     }
-    answers::put_error(out, waiting)
+    answers::put_error(rt, out, waiting)
 }
 
-fn serve_byte(byte: u8, line: &mut Line, out: &mut Buffer, state: State) -> State {
+fn serve_byte(rt: &impl Print, byte: u8, line: &mut Line, out: &mut Buffer, state: State) -> State {
     let held = state.held;
     let waiting = state.waiting;
     if byte == b'\n' {
         return State {
             held: 0,
-            waiting: answer_held(line, held, out, waiting),
+            waiting: answer_held(rt, line, held, out, waiting),
             has_ended: false,
         };
     }
@@ -59,21 +68,35 @@ fn serve_byte(byte: u8, line: &mut Line, out: &mut Buffer, state: State) -> Stat
     }
 }
 
-fn serve_bytes(bytes: &[u8], line: &mut Line, out: &mut Buffer, state: State) -> State {
+fn serve_bytes(
+    rt: &impl Print,
+    bytes: &[u8],
+    line: &mut Line,
+    out: &mut Buffer,
+    state: State,
+) -> State {
     let mut now = state;
     let mut i = 0;
     while i < bytes.len() {
-        now = serve_byte(bytes[i], line, out, now);
+        now = serve_byte(rt, bytes[i], line, out, now);
         i += 1;
     }
     now
 }
 
 // Reads once. A read that fails ends the input, too.
-fn serve_some(line: &mut Line, out: &mut Buffer, state: State) -> State {
-    let mut bytes = io::large_buffer();
-    let got = libc::read(STDIN_FILENO, &mut bytes);
-    let n = io::count(got, &bytes);
+fn serve_some(
+    rt: &impl Print,
+    input: &mut impl Read,
+    line: &mut Line,
+    out: &mut Buffer,
+    state: State,
+) -> State {
+    let mut bytes = [0u8; CHUNK];
+    let n = match input.read(&mut bytes) {
+        Ok(count) => count,
+        Err(_) => 0,
+    };
     if n == 0 {
         return State {
             held: state.held,
@@ -81,11 +104,11 @@ fn serve_some(line: &mut Line, out: &mut Buffer, state: State) -> State {
             has_ended: true,
         };
     }
-    serve_bytes(&bytes[..n], line, out, state)
+    serve_bytes(rt, &bytes[..n], line, out, state)
 }
 
 // Nothing says that input ends, and a proved loop has to: so the turns are counted down, from a number that no run uses up.
-fn serve_all(line: &mut Line, out: &mut Buffer) -> State {
+fn serve_all(rt: &impl Print, input: &mut impl Read, line: &mut Line, out: &mut Buffer) -> State {
     let mut state = State {
         held: 0,
         waiting: 0,
@@ -93,27 +116,28 @@ fn serve_all(line: &mut Line, out: &mut Buffer) -> State {
     };
     let mut turns = u64::MAX;
     while turns > 0 && !state.has_ended {
-        state = serve_some(line, out, state);
+        state = serve_some(rt, input, line, out, state);
         turns -= 1;
     }
     state
 }
 
 // The last line needs no end.
-fn finish(line: &mut Line, out: &mut Buffer, state: State) {
+fn finish(rt: &impl Print, line: &mut Line, out: &mut Buffer, state: State) {
     let held = state.held;
     let waiting = state.waiting;
     if held == 0 {
-        answers::flush(out, waiting);
+        answers::flush(rt, out, waiting);
         return;
     }
-    let all = answer_held(line, held, out, waiting);
-    answers::flush(out, all);
+    let all = answer_held(rt, line, held, out, waiting);
+    answers::flush(rt, out, all);
 }
 
-fn main() {
+fn main(rt: HostRuntime) {
     let mut line = [0u8; LONGEST];
     let mut out = [0u8; answers::ROOM];
-    let state = serve_all(&mut line, &mut out);
-    finish(&mut line, &mut out, state);
+    let mut input = rt.reader();
+    let state = serve_all(&rt, &mut input, &mut line, &mut out);
+    finish(&rt, &mut line, &mut out, state);
 }

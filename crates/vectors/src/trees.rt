@@ -9,23 +9,35 @@ use rules::{Limits, Stage};
 type Memory = [u32; Limits::MEMORY_NUMBERS];
 
 // A tree of so many numbers lies behind the tokens.
-fn put_left(memory: &[u32], count: usize, out: &mut Buffer, waiting: usize) -> usize
+fn put_left(
+    rt: &impl Print,
+    memory: &[u32],
+    count: usize,
+    out: &mut Buffer,
+    waiting: usize,
+) -> usize
     requires { token_numbers + count ≤ length memory.now }
 {
     let from = Limits::TOKEN_NUMBERS;
     let to = from + count;
-    answers::put_tree(out, waiting, &memory[from..to])
+    answers::put_tree(rt, out, waiting, &memory[from..to])
 }
 
 // It is a function of its own because here the length of working memory is known by its type: nothing computes it from the numbers themselves.
-fn answer_in(text: &[u8], memory: &mut Memory, out: &mut Buffer, waiting: usize) -> usize {
+fn answer_in(
+    rt: &impl Print,
+    text: &[u8],
+    memory: &mut Memory,
+    out: &mut Buffer,
+    waiting: usize,
+) -> usize {
     match parse::parse(text, memory) {
-        Stage::Left(count) => put_left(memory, count, out, waiting),
-        Stage::Refused { number, place } => answers::put_refused(out, waiting, number, place),
+        Stage::Left(count) => put_left(rt, memory, count, out, waiting),
+        Stage::Refused { number, place } => answers::put_refused(rt, out, waiting, number, place),
     }
 }
 
-pub(crate) fn answer(text: &[u8], out: &mut Buffer, waiting: usize) -> usize {
+pub(crate) fn answer(rt: &impl Print, text: &[u8], out: &mut Buffer, waiting: usize) -> usize {
     let mut memory = [0u32; Limits::MEMORY_NUMBERS];
-    answer_in(text, &mut memory, out, waiting)
+    answer_in(rt, text, &mut memory, out, waiting)
 }

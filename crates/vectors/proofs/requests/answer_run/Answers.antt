@@ -1,0 +1,12 @@
+use native.Mathlib.Omega.{arith}
+use Rattle.vectors.proofs.Bounds.{at_most, front}
+use Rattle.vectors.proofs.requests.answer_run.Goals as goal
+
+pub slice_bounds-table-end : goal.slice_bounds-table-end
+slice_bounds-table-end g c = at_most c.in-Number-read_table.is c.read_table.ensures
+
+pub slice_bounds-run_on-end : goal.slice_bounds-run_on-end
+slice_bounds-run_on-end g c = front _ c.in-Number-read_table.is c.read_table.ensures
+
+pub overflow_cast-budget : goal.overflow_cast-budget
+overflow_cast-budget g c = record { fits = omega (arith, at_most c.in-Number.is c.read_number.ensures) }
