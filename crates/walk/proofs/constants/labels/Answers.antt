@@ -22,7 +22,7 @@ pub loop-memory-preserved : goal.loop-memory-preserved
 loop-memory-preserved c =
     let starts : is_constant (tag_at c.loop-memory.memory c.loop-memory.r) ≡ true = sym (c.is_constant.ensures ∙ ap is_constant c.tag.ensures) ∙ c.loop-memory-test.true in
     (
-      omega (arith, c.label-r.auto.0, c.loop-memory.invariant.0),
+      omega (arith, c.label-r.auto.memory, c.loop-memory.invariant.0),
       omega (arith, c.label-r.ensures.fine, c.loop-memory.invariant.1),
       λ mₑ rₑ means. c.loop-memory.invariant.2 mₑ rₑ (labels_more starts c.label-r.ensures.means means),
     )
