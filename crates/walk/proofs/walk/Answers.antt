@@ -15,14 +15,14 @@ pub overflow_sub-result : goal.overflow_sub-result
 overflow_sub-result c =
     -- the program lies behind the tokens, or it is refused
     let ends : Ended c.args.text.now c.args.memory.now c.list-end.new.memory c.list-end.result =
-        ended _ _ _ c.in-Left.is (c.parse-parsed.ensures.means, c.parse-parsed.ensures.fits) c.declarations-d.ensures c.list-end.ensures.means in
+    ended _ _ _ c.in-Left.is (c.parse-parsed.ensures.means, c.parse-parsed.ensures.fits) c.declarations-d.ensures c.list-end.ensures.means in
     (end_free _ _ c.in-Ok.is ends).0
 
 pub returns-in-Ok : goal.returns-in-Ok
 returns-in-Ok c =
     -- the program lies behind the tokens, or it is refused
     let ends : Ended c.args.text.now c.args.memory.now c.list-end.new.memory c.list-end.result =
-        ended _ _ _ c.in-Left.is (c.parse-parsed.ensures.means, c.parse-parsed.ensures.fits) c.declarations-d.ensures c.list-end.ensures.means in
+    ended _ _ _ c.in-Left.is (c.parse-parsed.ensures.means, c.parse-parsed.ensures.fits) c.declarations-d.ensures c.list-end.ensures.means in
     -- behind the statements memory has its length
     let long : length c.list-end.new.memory ≡ length c.args.memory.now = omega arith in
     let w = walk_left _ _ c.in-Ok.is long ends c.clear_around.ensures in
@@ -32,7 +32,7 @@ pub returns-in-Bad : goal.returns-in-Bad
 returns-in-Bad c =
     -- the program lies behind the tokens, or it is refused
     let ends : Ended c.args.text.now c.args.memory.now c.list-end.new.memory c.list-end.result =
-        ended _ _ _ c.in-Left.is (c.parse-parsed.ensures.means, c.parse-parsed.ensures.fits) c.declarations-d.ensures c.list-end.ensures.means in
+    ended _ _ _ c.in-Left.is (c.parse-parsed.ensures.means, c.parse-parsed.ensures.fits) c.declarations-d.ensures c.list-end.ensures.means in
     -- behind the statements memory has its length
     let long : length c.list-end.new.memory ≡ length c.args.memory.now = omega arith in
     record { means = walk-refuses _ _ c.in-Bad.is long ends c.clear.ensures; fits = tt }

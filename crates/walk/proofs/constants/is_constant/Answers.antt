@@ -1,5 +1,5 @@
 use mathlib.Core.Path.{sym}
-use mathlib.Core.Logic.{⊎_elim, inl, inr}
+use mathlib.Core.Logic.{⊎_elim}
 use native.Mathlib.Omega.{arith}
 use Rattle.walk.specs.Constants.{is_constant}
 use Rattle.walk.proofs.ConstantValues.{signs_start, none-starts}

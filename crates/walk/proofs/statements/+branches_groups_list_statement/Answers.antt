@@ -103,8 +103,11 @@ groups-returns-then-tag-eq-ELSE t c =
 pub groups-returns : goal.groups-returns
 groups-returns t c =
     let m = c.loop-memory.memory in let s = c.loop-memory.r in
-    let a = c.args in record { fine = moved_on c.loop-memory.invariant.0 (moved-head FINISH m s c.head.ensures); means = groups_done a.text.now a.count a.taken.now a.inside c.loop-memory.invariant.2 c.tag-2.ensures (c.starts_group.ensures ∙ ap opens (c.tag.ensures ∙ sym c.tag-2.ensures)) c.loop-memory-test.false c.if-tag-eq-ELSE.false
-          c.head.ensures }
+    let a = c.args in record {
+      fine = moved_on c.loop-memory.invariant.0 (moved-head FINISH m s c.head.ensures);
+      means = groups_done a.text.now a.count a.taken.now a.inside c.loop-memory.invariant.2 c.tag-2.ensures (c.starts_group.ensures ∙ ap opens (c.tag.ensures ∙ sym c.tag-2.ensures)) c.loop-memory-test.false c.if-tag-eq-ELSE.false
+          c.head.ensures;
+    }
 
 pub list-loop-memory-init : goal.list-loop-memory-init
 list-loop-memory-init t c =
@@ -176,53 +179,53 @@ pub statement-returns-in-35 : goal.statement-returns-in-35
 statement-returns-in-35 t c =
     let a = c.args in
     let w =
-        statement-assignment a.text.now a.count a.taken.now a.inside a.memory.now a.s c.tag-kind.ensures c.in-35.is (c.assignment.ensures.fine, c.assignment.ensures.means) in
+    statement-assignment a.text.now a.count a.taken.now a.inside a.memory.now a.s c.tag-kind.ensures c.in-35.is (c.assignment.ensures.fine, c.assignment.ensures.means) in
     record { fine = w.0; means = w.1 }
 
 pub statement-returns-in-21 : goal.statement-returns-in-21
 statement-returns-in-21 t c =
     let a = c.args in
     let w =
-        statement_if a.text.now a.count a.taken.now a.inside a.memory.now a.s c.tag-kind.ensures c.in-21.is c.head-word.ensures
-        (c.branches.ensures.fine, c.branches.ensures.means) in
+    statement_if a.text.now a.count a.taken.now a.inside a.memory.now a.s c.tag-kind.ensures c.in-21.is c.head-word.ensures
+    (c.branches.ensures.fine, c.branches.ensures.means) in
     record { fine = w.0; means = w.1 }
 
 pub statement-returns-in-6 : goal.statement-returns-in-6
 statement-returns-in-6 t c =
     let a = c.args in
     let w =
-        statement-case a.text.now a.count a.taken.now a.inside a.memory.now a.s c.tag-kind.ensures c.in-6.is c.head-word-in-6.ensures
-        (c.held-selector.ensures.fine, c.held-selector.ensures.means) (c.groups.ensures.fine, c.groups.ensures.means) in
+    statement-case a.text.now a.count a.taken.now a.inside a.memory.now a.s c.tag-kind.ensures c.in-6.is c.head-word-in-6.ensures
+    (c.held-selector.ensures.fine, c.held-selector.ensures.means) (c.groups.ensures.fine, c.groups.ensures.means) in
     record { fine = w.0; means = w.1 }
 
 pub statement-returns-in-20 : goal.statement-returns-in-20
 statement-returns-in-20 t c =
     let a = c.args in
     let w =
-        statement_for a.text.now a.count a.taken.now a.inside a.memory.now a.s c.tag-kind.ensures c.for_head-bounds.result c.in-20.is (c.for_head-bounds.ensures.fine, c.for_head-bounds.ensures.means)
-        c.with_taken-inner.ensures c.with_taken-inner.type_inv.1.0.1 (c.list.ensures.fine, c.list.ensures.means) in
+    statement_for a.text.now a.count a.taken.now a.inside a.memory.now a.s c.tag-kind.ensures c.for_head-bounds.result c.in-20.is (c.for_head-bounds.ensures.fine, c.for_head-bounds.ensures.means)
+    c.with_taken-inner.ensures c.with_taken-inner.type_inv.1.0.1 (c.list.ensures.fine, c.list.ensures.means) in
     record { fine = w.0; means = w.1 }
 
 pub statement-returns-in-33 : goal.statement-returns-in-33
 statement-returns-in-33 t c =
     let a = c.args in
     let w =
-        statement_while a.text.now a.count a.taken.now a.inside a.memory.now a.s c.tag-kind.ensures c.in-33.is c.head-word-in-33.ensures
-        (c.held-condition.ensures.fine, c.held-condition.ensures.means) (c.list-in-33.ensures.fine, c.list-in-33.ensures.means) in
+    statement_while a.text.now a.count a.taken.now a.inside a.memory.now a.s c.tag-kind.ensures c.in-33.is c.head-word-in-33.ensures
+    (c.held-condition.ensures.fine, c.held-condition.ensures.means) (c.list-in-33.ensures.fine, c.list-in-33.ensures.means) in
     record { fine = w.0; means = w.1 }
 
 pub statement-returns-in-27 : goal.statement-returns-in-27
 statement-returns-in-27 t c =
     let a = c.args in
     let w =
-        statement-repeat a.text.now a.count a.taken.now a.inside a.memory.now a.s c.tag-kind.ensures c.in-27.is c.head-word-in-27.ensures
-        (c.list-body.ensures.fine, c.list-body.ensures.means) (c.held.ensures.fine, c.held.ensures.means) in
+    statement-repeat a.text.now a.count a.taken.now a.inside a.memory.now a.s c.tag-kind.ensures c.in-27.is c.head-word-in-27.ensures
+    (c.list-body.ensures.fine, c.list-body.ensures.means) (c.held.ensures.fine, c.held.ensures.means) in
     record { fine = w.0; means = w.1 }
 
 pub statement-returns-in_default : goal.statement-returns-in_default
 statement-returns-in_default t c =
     let a = c.args in
     let w =
-        statement-exit a.text.now a.count a.taken.now a.inside a.memory.now a.s c.tag-kind.ensures (λ e. omega arith) (λ e. omega arith) (λ e. omega arith)
-        (λ e. omega arith) (λ e. omega arith) (λ e. omega arith) (c.leave.ensures.fine, c.leave.ensures.means) in
+    statement-exit a.text.now a.count a.taken.now a.inside a.memory.now a.s c.tag-kind.ensures (λ e. omega arith) (λ e. omega arith) (λ e. omega arith)
+    (λ e. omega arith) (λ e. omega arith) (λ e. omega arith) (c.leave.ensures.fine, c.leave.ensures.means) in
     record { fine = w.0; means = w.1 }
