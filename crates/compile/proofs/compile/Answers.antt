@@ -4,4 +4,8 @@ use Rattle.compile.proofs.compile.Goals as goal
 pub returns : goal.returns
 returns c =
     let f = c.emit-answer.ensures in
-    (f.means, (f.writes.0, clears _ _ _ _ _ _ f.means f.writes.1 c.clear.ensures))
+    record {
+      means = f.means;
+      writes = f.writes;
+      clears = clears _ _ _ _ _ _ f.means f.leaves c.clear.ensures;
+    }
