@@ -1,5 +1,5 @@
 use mathlib.Core.Path.{◌≡◌, refl, ap, sym}
-use Prim.Native.Nat.{ℕ, ◌<◌}
+use Prim.Native.Nat.{ℕ}
 use native.Mathlib.Omega.{arith}
 use borrow.Author.Rules.{rules}
 use Rattle.rules.specs.Syntax.{operators, operator_of, operator}
@@ -9,11 +9,6 @@ use Rattle.parse.proofs.expressions.level_of.Goals as goal
 -- the level of a kind
 abbrev Level : ℕ → ℕ → Type 0
 Level n k = n ≡ (operator_of k operators).level
-
--- a kind before that of `<=` that is none
-low : (k : ℕ) → k < 37 → (k ≡ 22 → ⊥) → (k ≡ 3 → ⊥) → (k ≡ 34 → ⊥) → (k ≡ 25 → ⊥) → Missing k operators
-unfolding operators operator
-low k l a b d e = omega arith
 
 pub returns-in-51 : goal.returns-in-51
 unfolding operators operator_of operator
