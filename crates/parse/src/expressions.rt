@@ -10,6 +10,9 @@ ghost use Rattle.parse.specs.Parts.{right, right_cells, prefix_code, in_parens};
 use super::steps::{Step, kind, next, refuse, skip, take, write};
 use rules::Kind;
 
+// How many parentheses may be nested.
+const DEEPEST: u32 = 16;
+
 // The level of an operator, tightest 7; 0 where the kind is none.
 fn level_of(kind: u32) -> u32
     ensures means { result ≡ (operator_of kind operators).level }
@@ -69,7 +72,7 @@ fn parentheses(memory: &mut [u32], count: usize, s: Step, nesting: u32) -> Step
     ensures means { DidWith 2 0 exp_cells count memory.old memory.new s result (λ f. in_parens nesting (expr f (suc nesting) 1)) }
 {
     let token = next(memory, count, s);
-    if 16 <= nesting {
+    if DEEPEST <= nesting {
         return refuse(s, 10, token.place);
     }
     let inner = expression(memory, count, skip(count, s), nesting + 1, 1);

@@ -8,6 +8,9 @@ use super::bytes::Run;
 use super::pieces::Piece;
 use rules::Kind;
 
+// The largest integer that a token has.
+const LARGEST: u64 = 2147483648;
+
 // What is over the largest integer counts as one over it.
 fn capped(x: u64) -> u64
     ensures { result ≡ min x 2147483649 }
@@ -47,7 +50,7 @@ fn digits(text: &[u8], from: usize, start: usize, base: u8) -> Piece
     if !after {
         return Piece::Bad(4);
     }
-    if 2147483648 < value {
+    if LARGEST < value {
         return Piece::Bad(4);
     }
     Piece::Token(Kind::INT, value as u32, i - from)

@@ -14,6 +14,9 @@ use rules::Kind;
 const WORDS: [u8; 384] =
     *b"\x03AND        \x04BOOL       \x02BY         \x04CASE       \x04DINT       \x02DO         \x04ELSE       \x05ELSIF      \x08END_CASE   \x07END_FOR    \x06END_IF     \x0bEND_PROGRAM\x0aEND_REPEAT \x07END_VAR    \x09END_WHILE  \x04EXIT       \x05FALSE      \x03FOR        \x02IF         \x03MOD        \x03NOT        \x02OF         \x02OR         \x07PROGRAM    \x06REPEAT     \x04THEN       \x02TO         \x04TRUE       \x05UNTIL      \x03VAR        \x05WHILE      \x03XOR        ";
 
+// How far from the first letter a letter may stand that is not a name's last.
+const FARTHEST: usize = 30;
+
 // Whether the n bytes from `from` on are the reserved word of this row.
 fn is_word(text: &[u8], from: usize, n: usize, row: usize) -> bool
     requires { (from + n ≤ length text.now) × (length text.now ≤ 16384) × (row < 32) }
@@ -58,7 +61,7 @@ pub(crate) fn word(text: &[u8], from: usize) -> Piece
         if bytes::stand_at(text, last, b'_', b'_') {
             return Piece::Bad(3);
         }
-        if 30 < last - from {
+        if FARTHEST < last - from {
             return Piece::Bad(3);
         }
         last += 1;

@@ -84,8 +84,8 @@ operation-returns t c =
           c.skip.ensures (c.expression-r.ensures.means f (omega arith)) c.write.ensures;
     }
 
-pub parentheses-returns-then-nesting-ge16 : goal.parentheses-returns-then-nesting-ge16
-parentheses-returns-then-nesting-ge16 t c = record { fine = omega (arith, refused c.args.count _ _ _ c.refuse.ensures); means = λ f h. reads-deep (omega arith) _ c.next-token.ensures _ _ c.if-nesting-ge16.true c.refuse.ensures }
+pub parentheses-returns-then-nesting-ge-DEEPEST : goal.parentheses-returns-then-nesting-ge-DEEPEST
+parentheses-returns-then-nesting-ge-DEEPEST t c = record { fine = omega (arith, refused c.args.count _ _ _ c.refuse.ensures); means = λ f h. reads-deep (omega arith) _ c.next-token.ensures _ _ c.if-nesting-ge-DEEPEST.true c.refuse.ensures }
 
 pub parentheses-expression-inner-requires : goal.parentheses-expression-inner-requires
 parentheses-expression-inner-requires t c = omega (arith, passed _ _ c.skip.ensures c.requires.1)
@@ -101,7 +101,7 @@ parentheses-returns t c =
     let one = passed _ _ c.skip.ensures c.requires.1 in
     record {
       fine = omega (arith, wrote c.args.count _ c.write.ensures.0);
-      means = λ f h. reads-inner (omega arith) _ c.next-token.ensures _ c.if-nesting-ge16.false c.skip.ensures
+      means = λ f h. reads-inner (omega arith) _ c.next-token.ensures _ c.if-nesting-ge-DEEPEST.false c.skip.ensures
           (rw (add-one c.args.nesting) at (c.expression-inner.ensures.means f (omega arith))) c.take-closed.ensures.means c.write.ensures;
     }
 

@@ -55,12 +55,12 @@ returns-then-not-after-2 c =
     let off : in_run in_integer (drop c.loop-x.i c.args.text.now) ≡ false = sym c.goes_on.ensures ∙ c.loop-x-test.false in
     end_bad c.loop-x.invariant off (ap not c.if-not-after-2.true)
 
-pub returns-then-value-gt2147483648 : goal.returns-then-value-gt2147483648
-returns-then-value-gt2147483648 c =
+pub returns-then-value-gt-LARGEST : goal.returns-then-value-gt-LARGEST
+returns-then-value-gt-LARGEST c =
     let off : in_run in_integer (drop c.loop-x.i c.args.text.now) ≡ false = sym c.goes_on.ensures ∙ c.loop-x-test.false in
-    end_large c.loop-x.invariant off (ap not c.if-not-after-2.false) c.if-value-gt2147483648.true
+    end_large c.loop-x.invariant off (ap not c.if-not-after-2.false) c.if-value-gt-LARGEST.true
 
 pub returns : goal.returns
 returns c =
     let off : in_run in_integer (drop c.loop-x.i c.args.text.now) ≡ false = sym c.goes_on.ensures ∙ c.loop-x-test.false in
-    end_token c.loop-x.invariant off (ap not c.if-not-after-2.false) c.if-value-gt2147483648.false
+    end_token c.loop-x.invariant off (ap not c.if-not-after-2.false) c.if-value-gt-LARGEST.false

@@ -11,13 +11,13 @@ returns-then-stand_at c =
     (doubled _ _ _ c.loop-from.invariant (sym c.goes_on.ensures ∙ c.loop-from-test.true)
     (sym c.stand_at.ensures ∙ c.if-stand_at.true))
 
-pub returns-then-last-from-gt30 : goal.returns-then-last-from-gt30
-returns-then-last-from-gt30 c = sym (over _ _ _ c.loop-from.invariant (sym c.goes_on.ensures ∙ c.loop-from-test.true) c.if-last-from-gt30.true)
+pub returns-then-last-from-gt-FARTHEST : goal.returns-then-last-from-gt-FARTHEST
+returns-then-last-from-gt-FARTHEST c = sym (over _ _ _ c.loop-from.invariant (sym c.goes_on.ensures ∙ c.loop-from-test.true) c.if-last-from-gt-FARTHEST.true)
 
 pub loop-from-preserved : goal.loop-from-preserved
 loop-from-preserved c =
     next _ _ _ c.loop-from.invariant (sym c.goes_on.ensures ∙ c.loop-from-test.true)
-    (sym c.stand_at.ensures ∙ c.if-stand_at.false) c.if-last-from-gt30.false
+    (sym c.stand_at.ensures ∙ c.if-stand_at.false) c.if-last-from-gt-FARTHEST.false
 
 pub returns-then-text-last-eq95 : goal.returns-then-text-last-eq95
 returns-then-text-last-eq95 c = sym (under_last _ _ _ c.loop-from.invariant (sym c.goes_on.ensures ∙ c.loop-from-test.false) c.if-text-last-eq95.true)
