@@ -30,7 +30,7 @@ loop-cell-preserved c =
     let l = c.loop-cell in
     let on = tested c.tag_at.ensures c.is_item.ensures c.loop-cell-test.true in
     let less = loop_moves is_item _ l.q.at c.behind.result refl on c.behind.ensures in
-    (omega (arith, less, l.invariant.0), c.item.auto.0 ∙ l.invariant.1, loop_turns c.cell_at-cell.ensures on c.item.ensures l.invariant.2 c.behind.ensures)
+    (omega (arith, less, l.invariant.0), c.item.auto.code ∙ l.invariant.1, loop_turns c.cell_at-cell.ensures on c.item.ensures l.invariant.2 c.behind.ensures)
 
 pub returns : goal.returns
 unfolding held_cells is_item

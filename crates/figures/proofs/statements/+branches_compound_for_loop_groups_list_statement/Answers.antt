@@ -55,7 +55,7 @@ compound-returns-in-33 t c =
 pub compound-returns-in_default : goal.compound-returns-in_default
 compound-returns-in_default t c =
     record { fine = further _ (further _ (past _ _ c.behind-next.ensures) c.list-body-in_default.ensures.fine) c.held-condition-in_default.ensures.fine; means = λ x o y n i. repeat_is c.behind-next.ensures
-          (only_repeat (tagged_as c.tag_at.ensures refl x y) o c.in_default.in_default-own.rest.0.0.0.1 c.in_default.in_default-own.rest.0.0.1 c.in_default.in_default-own.rest.0.1 c.in_default.in_default-own.rest.1) c.list-body-in_default.ensures.means c.held-condition-in_default.ensures.means c.deeper-in_default.ensures y n i }
+          (only_repeat (tagged_as c.tag_at.ensures refl x y) o (λ e. omega arith) (λ e. omega arith) (λ e. omega arith) (λ e. omega arith)) c.list-body-in_default.ensures.means c.held-condition-in_default.ensures.means c.deeper-in_default.ensures y n i }
 
 pub for_loop-returns : goal.for_loop-returns
 for_loop-returns t c =
@@ -102,7 +102,7 @@ pub list-returns : goal.list-returns
 list-returns t c = record { fine = behind_loop c.loop-f.invariant.0 (past _ _ c.behind.ensures); means = list_done c.tag_at.ensures c.loop-f.invariant.1 c.loop-f-test.false c.behind.ensures }
 
 pub statement-returns-then-levels-eq0 : goal.statement-returns-then-levels-eq0
-statement-returns-then-levels-eq0 t c = record { fine = past _ _ c.behind-next.ensures; means = λ x y n i. absurd (omega (arith, nested (tagged_as c.tag_at.ensures refl x y) c.in_default.in_default-own.rest.0.1 c.in_default.in_default-own.rest.1)) }
+statement-returns-then-levels-eq0 t c = record { fine = past _ _ c.behind-next.ensures; means = λ x y n i. absurd (omega (arith, nested (tagged_as c.tag_at.ensures refl x y) (λ e. omega arith) (λ e. omega arith))) }
 
 pub statement-returns-in-35 : goal.statement-returns-in-35
 statement-returns-in-35 t c = record { fine = further _ (past _ _ c.behind-next.ensures) c.held-value.ensures.fine; means = λ x y n i. assign_is c.behind-next.ensures (tagged_as c.tag_at.ensures c.in-35.is x y) c.held-value.ensures.means y }
@@ -113,4 +113,4 @@ statement-returns-in-18 t c = record { fine = past _ _ c.behind-next.ensures; me
 pub statement-returns-else-levels-eq0 : goal.statement-returns-else-levels-eq0
 statement-returns-else-levels-eq0 t c =
     record { fine = c.compound.ensures.fine; means = λ x y n i. c.compound.ensures.means x
-          (nested (tagged_as c.tag_at.ensures refl x y) c.in_default.in_default-own.rest.0.1 c.in_default.in_default-own.rest.1) y (omega arith) i }
+          (nested (tagged_as c.tag_at.ensures refl x y) (λ e. omega arith) (λ e. omega arith)) y (omega arith) i }
