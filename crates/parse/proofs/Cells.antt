@@ -12,7 +12,6 @@ use Rattle.rules.specs.Cells.{cells, token_cell, cell, datum}
 use Rattle.parse.specs.Steps.{token_at}
 use Rattle.parse.specs.Reading.{Ahead}
 use Rattle.parse.specs.declared.steps.Step.TheVariants.{Ok}
-use Rattle.parse.specs.declared.steps.Token as Code
 
 -- what is stored behind some stores is stored with them
 pub sets_append : (l : List ℕ) (i : ℕ) (xs ys : List ℕ) → sets (sets l i xs) (i + length xs) ys ≡ sets l i (xs ++ ys)

@@ -10,8 +10,8 @@ use native.Mathlib.Omega.{arith}
 use Rattle.rules.specs.Limits.{nesting_limit, for_limit}
 use Rattle.rules.specs.Kinds.{NAME, BY, CASE, DO, ELSE, END_CASE, END_FOR, END_IF, END_REPEAT, END_WHILE, EXIT, FOR, IF, OF, REPEAT, THEN, TO, UNTIL, WHILE, ASSIGN, COLON, SEMI}
 use Rattle.rules.specs.Tokens as T
-use Rattle.rules.specs.Syntax.{Name, Exp, truth, Stm, assign_s, if_s, case_s, for_s, while_s, repeat_s, exit_s, Stms, empty, no_else, no_other, Reader, on_read, ◌>>=◌, ◌>>◌, give, next, skip, take, when, nested, take_name, maybe, expr, labels, assignment, exit, if_then, case_of, for_do, while_do, repeat_until, one_branch, one_group, statement, list, branches, groups}
-use Rattle.rules.specs.Cells.{cell, datum, name_cell, whole_cells, maybe_cells, labels_cells, stm_cells, list_cells, branch_cells, group_cells}
+use Rattle.rules.specs.Syntax.{Name, Exp, truth, Stm, assign_s, if_s, case_s, for_s, while_s, repeat_s, exit_s, Stms, empty, no_else, no_other, Reader, on_read, ◌>>=◌, ◌>>◌, give, skip, take, when, nested, take_name, maybe, expr, labels, assignment, exit, if_then, case_of, for_do, while_do, repeat_until, one_branch, one_group, statement, list, branches, groups}
+use Rattle.rules.specs.Cells.{cell, name_cell, whole_cells, maybe_cells, labels_cells, stm_cells, list_cells, branch_cells, group_cells}
 use Rattle.parse.specs.Steps.{free_of, token_at, kind_at, skipped, extended, written, refused_at}
 use Rattle.parse.specs.Reading.{Did, reads, stays, nothing}
 use Rattle.parse.specs.Parts.{compound, element, element_cells, one_condition, condition_cells, one_labelled, labelled_cells, otherwise, otherwise_cells, conditions}

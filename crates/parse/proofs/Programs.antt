@@ -13,7 +13,7 @@ use Rattle.rules.specs.Kinds.{FINISH, NAME, BOOL, DINT, END_PROGRAM, END_VAR, PR
 use Rattle.rules.specs.Syntax.{Decl, on_read, ◌>>=◌, give, when, maybe, list, empty, declaration, declarations, variables, program}
 use Rattle.rules.specs.Cells.{cell, end_cell, name_cell, maybe_cells, list_cells, type_kind, decl_cells, decls_cells, tree_cells}
 use Rattle.parse.specs.Steps.{next_of, end_of, free_of, room_of, Fits, Moves, token_at, kind_at, skipped, extended, written}
-use Rattle.parse.specs.Reading.{Did, DidWith, nothing}
+use Rattle.parse.specs.Reading.{Did, DidWith}
 use Rattle.parse.specs.Parts.{declared_type, type_cell}
 use Rattle.parse.specs.declared.steps.Step.{Step}
 use Rattle.parse.specs.declared.steps.Step.TheVariants.{Ok}
@@ -52,16 +52,16 @@ module _ {n : ℕ} {m : List ℕ} {s : Step} (behind : 3 * n ≤ free_of s) wher
   type-bool within {s₁} place d sees same skip w =
       let one = past n m s sees (omega arith) skip in
       let more = wrote n s₁ w.0 in
-      (omega arith, begin (is behind _ _ BOOL (sym sees ∙ same) (skips_on behind (writes behind BOOL place d (rw skip at w) (gives bool refl)))))
+      record { fine = omega arith; means = begin (is behind _ _ BOOL (sym sees ∙ same) (skips_on behind (writes behind BOOL place d (rw skip at w) (gives bool refl)))) }
 
   pub type-dint : Within n s → {k : ℕ} {m₁ : List ℕ} {s₁ r : Step} (place d : ℕ) → k ≡ kind_at n m s → (k ≡ BOOL → ⊥) → Takes DINT n m s s₁
       → (r ≡ extended s₁) × (m₁ ≡ written m s₁ (cell DINT place d)) → Reads 0 (type_cell place d) n m m₁ s r declared_type
   unfolding declared_type type_cell type_kind
   type-dint within {s₁} place d sees other word w =
-      let paid = word.1.0 (omega arith) in
+      let paid = word.paid (omega arith) in
       let more = wrote n s₁ w.0 in
       reading 0
-      (begin (isn't behind _ _ BOOL (λ e. other (sees ∙ e)) (thens behind word.1.1.1 (writes behind DINT place d w (gives dint refl)))))
+      (begin (isn't behind _ _ BOOL (λ e. other (sees ∙ e)) (thens behind word.means (writes behind DINT place d w (gives dint refl)))))
       (λ h. omega arith)
 
   -- A declaration; x is the name's token
@@ -69,24 +69,24 @@ module _ {n : ℕ} {m : List ℕ} {s : Step} (behind : 3 * n ≤ free_of s) wher
   pub declares : {x : Code.Token} {m₁ m₂ : List ℕ} {s₁ s₂ s₃ s₄ r : Step} → token_numbers ≤ free_of s → next_of n s < n → x ≡ token_at n m s
       → Takes NAME n m s s₁ → Takes COLON n m s₁ s₂ → Reads 0 (type_cell x.place x.datum) n m m₁ s₂ s₃ declared_type
       → Reads 3 maybe_cells n m₁ m₂ s₃ s₄ (maybe ASSIGN) → Takes SEMI n m₂ s₄ r
-      → Moves n 0 s r × ((next_of n s < next_of n r) × Did decl_cells n m m₂ s r declaration)
+      → record { fine : Moves n 0 s r; on : next_of n s < next_of n r; means : Did decl_cells n m m₂ s r declaration }
   unfolding declaration declared_type type_cell decl_cells name_cell
   declares {m₂} {s₁} {r} free ahead sees name colon typed initial semi =
       let on = go (ltb (next_of n s₁) n) refl in
-      let d = reading 0 means (λ h. let paid = pays n s s₁ free h (name.1.0 (omega arith)) in omega arith) in
-      (d.0, (omega arith, d.1))
+      let d = reading 0 means (λ h. let paid = pays n s s₁ free h (name.paid (omega arith)) in omega arith) in
+      record { fine = d.fine; on = omega arith; means = d.means }
     where
       means : Did decl_cells n m m₂ s r declaration
       means =
-          begin (takes-name behind name.1.1.1 (λ v p l.
-          thens behind colon.1.1.1
-          (bind behind bool typed.1 (λ t.
-          bind behind none initial.1 (λ i.
-          thens behind semi.1.1.1
+          begin (takes-name behind name.means (λ v p l.
+          thens behind colon.means
+          (bind behind bool typed.means (λ t.
+          bind behind none initial.means (λ i.
+          thens behind semi.means
           (gives (record { name = v; type = t; init = i }) (rw (p, l, sees))))))))
 
       go : (b : Bool) → ltb (next_of n s₁) n ≡ b → next_of n s < next_of n s₁
-      go true e = name.1.1.0 (omega arith) (ltb-true _ _ e)
+      go true e = name.on (omega arith) (ltb-true _ _ e)
       go false e = omega (arith, ltb-false (next_of n s₁) n e)
 
   -- Declarations
@@ -123,12 +123,12 @@ module _ {n : ℕ} {m : List ℕ} {s : Step} (behind : 3 * n ≤ free_of s) wher
       → ReadsWith 3 1 1 decls_cells n m m₁ s₁ s₂ declarations → Takes END_VAR n m₁ s₂ r → ReadsWith 3 1 1 decls_cells n m m₁ s r variables
   unfolding variables
   variables-some sees same skip d word =
-      let one = past n m s sees (omega arith) skip in (
-        omega arith,
-        λ f h.
+      let one = past n m s sees (omega arith) skip in record {
+        fine = omega arith;
+        means = λ f h.
             begin (is behind _ _ VAR (sym sees ∙ same) (skips_on behind (rw (← skip)
-            (bind behind [] (d.1 f (omega arith)) (λ ds. thens behind word.1.1.1 (gives ds refl)))))),
-      )
+            (bind behind [] (d.means f (omega arith)) (λ ds. thens behind word.means (gives ds refl))))));
+      }
 
   -- no VAR: no declarations
   pub variables-none : Within n s → {k : ℕ} {m₁ : List ℕ} {r : Step} → k ≡ kind_at n m s → (k ≡ VAR → ⊥)
@@ -136,7 +136,7 @@ module _ {n : ℕ} {m : List ℕ} {s : Step} (behind : 3 * n ≤ free_of s) wher
   unfolding variables decls_cells end_cell
   variables-none within sees other w =
       let more = wrote n s w.0 in
-      (omega arith, λ f h. begin (isn't behind _ _ VAR (λ e. other (sees ∙ e)) (writes behind FINISH 0 0 w (gives [] refl))))
+      record { fine = omega arith; means = λ f h. begin (isn't behind _ _ VAR (λ e. other (sees ∙ e)) (writes behind FINISH 0 0 w (gives [] refl))) }
 
   -- The whole program
 
@@ -145,14 +145,14 @@ module _ {n : ℕ} {m : List ℕ} {s : Step} (behind : 3 * n ≤ free_of s) wher
       → Takes END_PROGRAM n m₂ s₄ s₅ → Takes FINISH n m₂ s₅ r → ReadsWith 0 3 3 tree_cells n m m₂ s r program
   unfolding program tree_cells
   programs {m₂} {s₁} {s₂} {s₃} {r} free word name declared body end all =
-      reading_with 0 3 3 means (λ h. let paid = pays n s s₁ free h (word.1.0 (omega arith)) in omega arith)
+      reading_with 0 3 3 means (λ h. let paid = pays n s s₁ free h (word.paid (omega arith)) in omega arith)
     where
       means : DidWith 3 3 tree_cells n m m₂ s r program
       means f h =
-          begin (thens behind word.1.1.1
-          (passes-name behind name.1.1.1
-          (bind behind [] (declared.1 f (fuel_left n (next_of n s) (next_of n s₂) f (omega arith) h).0) (λ ds.
-          bind behind empty (body.1 f (fuel_left n (next_of n s) (next_of n s₃) f (omega arith) h).1) (λ l.
-          thens behind end.1.1.1
-          (thens behind all.1.1.1
+          begin (thens behind word.means
+          (passes-name behind name.means
+          (bind behind [] (declared.means f (fuel_left n (next_of n s) (next_of n s₂) f (omega arith) h).0) (λ ds.
+          bind behind empty (body.means f (fuel_left n (next_of n s) (next_of n s₃) f (omega arith) h).1) (λ l.
+          thens behind end.means
+          (thens behind all.means
           (gives (record { decls = ds; body = l }) refl)))))))

@@ -18,10 +18,10 @@ moves more (reads d) k = k refl
 
 module _ {A : Type 0} {encode : A → List ℕ} {n : ℕ} {m m₁ : List ℕ} {s r : Step} (more : ℕ) where
   -- a reading moves so far if it does where it begins at no refusal: there its end lies behind the tokens
-  pub reading : {R : Reader A} → Did encode n m m₁ s r R → (end_of s ≡ free_of s → Moves n more s r) → Moves n more s r × Did encode n m m₁ s r R
-  reading d k = (moves more d k, d)
+  pub reading : {R : Reader A} → Did encode n m m₁ s r R → (end_of s ≡ free_of s → Moves n more s r) → record { fine : Moves n more s r; means : Did encode n m m₁ s r R }
+  reading d k = record { fine = moves more d k; means = d }
 
   -- the same of a reader with fuel
   pub reading_with : {R : ℕ → Reader A} (each least : ℕ) → DidWith each least encode n m m₁ s r R → (end_of s ≡ free_of s → Moves n more s r)
-      → Moves n more s r × DidWith each least encode n m m₁ s r R
-  reading_with each least d k = (moves more (d _ (le_refl _)) k, d)
+      → record { fine : Moves n more s r; means : DidWith each least encode n m m₁ s r R }
+  reading_with each least d k = record { fine = moves more (d _ (le_refl _)) k; means = d }

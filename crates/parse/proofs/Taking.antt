@@ -1,12 +1,11 @@
 -- Taking a token of a kind: what is left, and how far it moves. Assumes nothing.
 use mathlib.Core.Path.{◌≡◌, refl, sym, ◌∙◌}
 use mathlib.Core.List.{List}
-use Prim.Native.Nat.{ℕ, ◌*◌, ◌-◌, ◌≤◌}
+use Prim.Native.Nat.{ℕ, ◌*◌, ◌≤◌}
 use native.Mathlib.Omega.{arith}
 use Rattle.rules.specs.Syntax as S
 use Rattle.rules.specs.Syntax.{on_read, ◌>>=◌, give, when, unexpected}
 use Rattle.parse.specs.Steps.{free_of, Fits, token_at, skipped, refused_at}
-use Rattle.parse.specs.Reading.{nothing}
 use Rattle.parse.specs.declared.steps.Step.{Step}
 use Rattle.parse.specs.declared.steps.Token as Code
 use Rattle.parse.proofs.Follow.{begin, named, skips, is, isn't, unexpects, gives}
@@ -23,29 +22,21 @@ module _ (n l : ℕ) (m : List ℕ) (s : Step) (k : ℕ) (fits : Fits n l 0 s) (
   -- it is there, and is skipped
   pub takes : t.kind ≡ k → r ≡ skipped n s → Takes k n m s r
   unfolding S.take S.skip when unexpected ◌>>=◌ on_read give
-  takes e q = (
-    skip-moves n s q fits.1 fits.2,
-    (
-      (λ h. omega (arith, past_token n m s next (omega arith) q)),
-      (
-        (λ h u. omega (arith, past_token n m s next (omega arith) q)),
-        rw q (begin (named (λ us. refl) (is behind _ unexpected k (kind_had n m s next ∙ e) (skips behind (λ t z. gives t refl))))),
-      ),
-    ),
-  )
+  takes e q = record {
+    fine = skip-moves n s q fits.1 fits.2;
+    paid = λ h. omega (arith, past_token n m s next (omega arith) q);
+    on = λ h u. omega (arith, past_token n m s next (omega arith) q);
+    means = rw q (begin (named (λ us. refl) (is behind _ unexpected k (kind_had n m s next ∙ e) (skips behind (λ t z. gives t refl)))));
+  }
 
   -- it is not, and is refused
   pub misses : (t.kind ≡ k → ⊥) → r ≡ refused_at 5 t.place s → Takes k n m s r
   unfolding S.take S.skip when unexpected
   misses e q =
       let all = refused_all n 5 (token_at n m s).place s in
-      rw (q, next) (
-        omega arith,
-        (
-          (λ h. omega arith),
-          (
-            (λ h u. omega arith),
-            begin (named (λ us. refl) (isn't behind S.skip unexpected k (λ z. e (sym (kind_had n m s next) ∙ z)) (unexpects behind refl))),
-          ),
-        ),
-      )
+      rw (q, next) record {
+        fine = omega arith;
+        paid = λ h. omega arith;
+        on = λ h u. omega arith;
+        means = begin (named (λ us. refl) (isn't behind S.skip unexpected k (λ z. e (sym (kind_had n m s next) ∙ z)) (unexpects behind refl)));
+      }

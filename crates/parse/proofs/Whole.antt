@@ -98,9 +98,9 @@ module _ (text lent : List ℕ) (enough : memory_numbers ≤ length lent) where
   enough_same = rw (le-leb memory_numbers (length lent) enough, le-leb token_numbers (length lent) (omega arith))
 
   -- scanning refused: so does parsing
-  pub parsed_unscanned : {r : Stage} {m : List ℕ} (n p : ℕ) → r ≡ Refused n p → left r m ≡ scanned text lent → (left r m ≡ parsed text lent) × TreeFits r
+  pub parsed_unscanned : {r : Stage} {m : List ℕ} (n p : ℕ) → r ≡ Refused n p → left r m ≡ scanned text lent → record { means : left r m ≡ parsed text lent; fits : TreeFits r }
   unfolding scanned tokens_left parsed parsed_left
-  parsed_unscanned {r} {m} n p e q = rw (← enough_same) (go (tokens_for token_numbers (length lent) text) q, rw e tt)
+  parsed_unscanned {r} {m} n p e q = record { means = rw (← enough_same) (go (tokens_for token_numbers (length lent) text) q); fits = rw e tt }
     where
       go : (o : Res (List Token)) → left r m ≡ tokens_left o lent → left r m ≡ parsed_left o lent
       go (refuse x y) q = q
@@ -130,15 +130,15 @@ module _ (text lent : List ℕ) (enough : memory_numbers ≤ length lent) where
       go true e = e
       go false e = let z : ◌≡◌ {A = ℕ} 0 1 = cc in absurd (omega arith)
 
-  module _ {r : Stage} {m m₁ : List ℕ} {e : Step} (count : ℕ) (is : r ≡ Left count) (scan : (left r m ≡ scanned text lent) × TokensFit r)
-      (reading : Moves count 0 (Ok 0 token_numbers) e × DidWith 3 3 tree_cells count m m₁ (Ok 0 token_numbers) e program) where
+  module _ {r : Stage} {m m₁ : List ℕ} {e : Step} (count : ℕ) (is : r ≡ Left count) (scan : record { means : left r m ≡ scanned text lent; fits : TokensFit r })
+      (reading : record { fine : Moves count 0 (Ok 0 token_numbers) e; means : DidWith 3 3 tree_cells count m m₁ (Ok 0 token_numbers) e program }) where
     done : (ts : List Token) → length ts ≡ count → m ≡ sets lent 0 (cells ts) → Done tree_cells count m m₁ token_numbers e (program (4 * length ts) ts)
-    done ts many lie = let few = counted count is scan.1 in read-program lent ts many lie (omega arith) reading.1
+    done ts many lie = let few = counted count is scan.fits in read-program lent ts many lie (omega arith) reading.means
 
     -- the tree was read
-    pub parsed-tree : (j a : ℕ) → e ≡ Ok j a → (left (Left (a - token_numbers)) m₁ ≡ parsed text lent) × (a - token_numbers ≤ tree_numbers)
+    pub parsed-tree : (j a : ℕ) → e ≡ Ok j a → record { means : left (Left (a - token_numbers)) m₁ ≡ parsed text lent; fits : a - token_numbers ≤ tree_numbers }
     unfolding parsed parsed_left parse
-    parsed-tree j a same = (go (left_tokens count is scan.0), (tree-room count j a (counted count is scan.1) same reading.0).1)
+    parsed-tree j a same = record { means = go (left_tokens count is scan.means); fits = (tree-room count j a (counted count is scan.fits) same reading.fine).1 }
       where
         go : Scanned text lent m count → left (Left (a - token_numbers)) m₁ ≡ parsed text lent
         go (these ts found many lie) = rw (found, ← lie) (tree_left_lem lent j a same (done ts many lie))
@@ -147,7 +147,7 @@ module _ (text lent : List ℕ) (enough : memory_numbers ≤ length lent) where
     pub parsed_unread : {m₂ : List ℕ} (x p : ℕ) → e ≡ Bad x p → length m₁ ≡ length lent → m₂ ≡ replicate (length m₁) 0
         → left (Refused x p) m₂ ≡ parsed text lent
     unfolding parsed parsed_left parse tree_left refused_lent memory_after
-    parsed_unread {m₂} x p same long zeros = go (left_tokens count is scan.0)
+    parsed_unread {m₂} x p same long zeros = go (left_tokens count is scan.means)
       where
         go : Scanned text lent m count → left (Refused x p) m₂ ≡ parsed text lent
         go (these ts found many lie) =

@@ -1,45 +1,51 @@
 -- `parse::constants::constant` meets its contract: by the next token's kind.
-use mathlib.Core.Logic.{⊎_elim, inl, inr}
+use mathlib.Core.Path.{◌≡◌}
+use mathlib.Core.Logic.{inl, inr}
+use Prim.Native.Nat.{◌≤◌}
 use native.Mathlib.Omega.{arith}
+use Rattle.rules.specs.Kinds.{MINUS, PLUS}
 use Rattle.parse.proofs.Moves.{wrote}
 use Rattle.parse.proofs.OneConstant.{sign_of, truth-read, signed-read, unsigned-read}
-use Rattle.parse.proofs.Skipping.{Past, past_token}
+use Rattle.parse.proofs.Skipping.{past_token}
 use Rattle.parse.proofs.constants.constant.Goals as goal
-
--- TRUE or FALSE was there
-past-truth : (c : tie.After-skip)
-    → Past c.before.before.before.before.before.before.args.count c.before.before.before.before.before.before.args.s c.skip.result
-past-truth c =
-    let m = c.before.before in
-    past_token _ _ _ m.before.next.ensures (⊎_elim (λ e. omega arith) (λ e. omega arith) m.match.keys1) c.skip.ensures
-
--- a sign was there
-past-sign : (c : tie.After-skip2)
-    → Past c.before.before.before.before.before.before.before.before.args.count
-    c.before.before.before.before.before.before.before.before.args.s c.skip2.result
-past-sign c =
-    let f = c.before.before.before in
-    past_token _ _ _ f.before.before.next.ensures (omega (arith, f.if1.false)) c.skip2.ensures
+use Rattle.parse.proofs.constants.constant.Goals.{in_default-via-then-k-lt45, in_default-via-else-k-lt45+else-k-lt47}
 
 pub write-requires : goal.write-requires
-write-requires c = omega (arith, past-truth c)
+write-requires c =
+    let some : 1 ≤ c.next-token.result.kind = elim c.in-30.is [ inl e ↦ omega arith | inr e ↦ omega arith ] in
+    -- TRUE or FALSE was there
+    let past = past_token _ _ _ c.next-token.ensures some c.skip.ensures in
+    omega arith
 
 pub integer-requires : goal.integer-requires
-integer-requires c = omega (arith, past-sign c)
+integer-requires c =
+    -- a sign was there
+    let past = past_token _ _ _ c.next-token.ensures (omega arith) c.skip-in-46.ensures in
+    omega arith
 
 pub returns-in-30 : goal.returns-in-30
-returns-in-30 c = record { fine = omega (arith, c.requires, past-truth c, wrote c.args.count _ c.write.ensures.0); means = truth-read _ _ _ _ _ _ c.next-token.ensures (omega (arith, c.requires)) c.in-30.is c.skip.ensures c.write.ensures }
+returns-in-30 c =
+    let some : 1 ≤ c.next-token.result.kind = elim c.in-30.is [ inl e ↦ omega arith | inr e ↦ omega arith ] in
+    let past = past_token _ _ _ c.next-token.ensures some c.skip.ensures in
+    let cell = wrote c.args.count _ c.write.ensures.0 in
+    record {
+      fine = omega arith;
+      means = truth-read _ _ _ _ _ _ c.next-token.ensures (omega arith) c.in-30.is c.skip.ensures c.write.ensures;
+    }
 
 pub returns-in-46 : goal.returns-in-46
 returns-in-46 c =
-    record { fine = omega (arith, c.requires, past-sign c, c.integer.ensures.fine); means = signed-read _ _ _ _ _ _ c.next-token.ensures (omega (arith, c.requires))
-          (sign_of _ c.if-k-lt45.false (omega (arith, c.in-46.if-k-lt47-own.true))) c.skip-in-46.ensures c.integer.ensures.means }
+    let past = past_token _ _ _ c.next-token.ensures (omega arith) c.skip-in-46.ensures in
+    record {
+      fine = omega arith;
+      means = signed-read _ _ _ _ _ _ c.next-token.ensures (omega arith) (sign_of _ (omega arith) (omega arith)) c.skip-in-46.ensures c.integer.ensures.means;
+    }
 
 pub returns-in_default : goal.returns-in_default
 returns-in_default c =
-    record { fine = c.integer-in_default.ensures.fine; means = unsigned-read _ _ _ _ _ _ c.next-token.ensures (omega (arith, c.requires))
-          (λ e. ⊎_elim (λ a. omega (arith, a.taken)) (λ a. omega (arith, a.1.left)) c.in_default.branch)
-          (λ e. ⊎_elim (λ a. omega (arith, a.taken)) (λ a. omega (arith, a.1.left)) c.in_default.branch)
-          (λ e. c.in_default-1.rest.1 (inr e))
-          (λ e. c.in_default-1.rest.1 (inl e))
-          c.integer-in_default.ensures.means }
+    let no_minus : c.next-token.result.kind ≡ MINUS → ⊥ = λ e. elim c.in_default.branch [ in_default-via-then-k-lt45 w ↦ omega arith | in_default-via-else-k-lt45+else-k-lt47 w ↦ omega arith ] in
+    let no_plus : c.next-token.result.kind ≡ PLUS → ⊥ = λ e. elim c.in_default.branch [ in_default-via-then-k-lt45 w ↦ omega arith | in_default-via-else-k-lt45+else-k-lt47 w ↦ omega arith ] in
+    record {
+      fine = c.integer-in_default.ensures.fine;
+      means = unsigned-read _ _ _ _ _ _ c.next-token.ensures (omega arith) no_minus no_plus (λ e. grind arith) (λ e. grind arith) c.integer-in_default.ensures.means;
+    }

@@ -9,10 +9,10 @@ use Rattle.parse.proofs.Stays.{reading}
 use Rattle.parse.proofs.constants.integer.Goals as goal
 
 pub write-signed-requires : goal.write-signed-requires
-write-signed-requires c = omega (arith, c.take-taken.ensures.paid.0 (omega arith))
+write-signed-requires c = omega (arith, c.take-taken.ensures.paid (omega arith))
 
 pub write-requires : goal.write-requires
-write-requires c = omega (arith, c.take-taken.ensures.paid.0 (omega arith), wrote c.args.count _ c.write-signed.ensures.0)
+write-requires c = omega (arith, c.take-taken.ensures.paid (omega arith), wrote c.args.count _ c.write-signed.ensures.0)
 
 pub returns : goal.returns
 unfolding integer_cells
@@ -22,11 +22,11 @@ returns c =
     (begin
     (named integer_next
     (looks behind c.args.s (λ u z.
-    thens behind c.take-taken.ensures.paid.1.1
+    thens behind c.take-taken.ensures.means
     (writes behind _ _ _ c.write-signed.ensures
     (writes behind _ _ _ c.write.ensures
     (gives (valued u) (rw (c.next-token.ensures, z)))))))))
     (λ h.
     let e₁ = wrote c.args.count _ c.write-signed.ensures.0 in
     let e₂ = wrote c.args.count _ c.write.ensures.0 in
-    omega (arith, c.requires, c.take-taken.ensures.fine, c.take-taken.ensures.paid.0 (omega arith)))
+    omega (arith, c.requires, c.take-taken.ensures.fine, c.take-taken.ensures.paid (omega arith)))

@@ -12,21 +12,35 @@ use Rattle.parse.proofs.Skipping.{skip-moves}
 use Rattle.parse.proofs.constants.maybe_constant.Goals as goal
 
 pub constant-requires : goal.constant-requires
-constant-requires c = omega (arith, c.requires, skip-moves _ _ c.skip.ensures c.requires.1 c.requires.2)
+constant-requires c =
+    let on = skip-moves _ _ c.skip.ensures (omega arith) (omega arith) in
+    omega arith
 
 pub returns-then-kind-before : goal.returns-then-kind-before
 unfolding maybe maybe_cells
 returns-then-kind-before c =
-    let behind : 3 * c.args.count ≤ free_of c.args.s = omega (arith, c.requires) in record { fine = omega (arith, c.requires, skip-moves _ _ c.skip.ensures c.requires.1 c.requires.2, c.constant.ensures.fine); means = begin
+    let behind : 3 * c.args.count ≤ free_of c.args.s = omega arith in
+    let on = skip-moves _ _ c.skip.ensures (omega arith) (omega arith) in
+    record {
+      fine = omega arith;
+      means =
+          begin
           (is behind _ _ _ (sym c.kind.ensures ∙ c.if-kind-before.true)
           (skips_on behind
           (bind behind (con_bool 0 true) (rw c.skip.ensures at c.constant.ensures.means) (λ e.
-          gives (some e) refl)))) }
+          gives (some e) refl))));
+    }
 
 pub returns : goal.returns
 unfolding maybe maybe_cells end_cell
 returns c =
-    let behind : 3 * c.args.count ≤ free_of c.args.s = omega (arith, c.requires) in record { fine = omega (arith, c.requires, wrote c.args.count _ c.write.ensures.0); means = begin
+    let behind : 3 * c.args.count ≤ free_of c.args.s = omega arith in
+    let cell = wrote c.args.count _ c.write.ensures.0 in
+    record {
+      fine = omega arith;
+      means =
+          begin
           (isn't behind _ _ _ (λ e. c.if-kind-before.false (c.kind.ensures ∙ e))
           (writes behind _ _ _ c.write.ensures
-          (gives none refl))) }
+          (gives none refl)));
+    }

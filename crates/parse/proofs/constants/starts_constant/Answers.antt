@@ -1,6 +1,6 @@
 use mathlib.Core.Path.{◌≡◌}
 use mathlib.Core.Bool.{false}
-use mathlib.Core.Logic.{⊎_elim, inl, inr}
+use mathlib.Core.Logic.{inl, inr}
 use Prim.Native.Nat.{ℕ}
 use native.Mathlib.Omega.{arith}
 use borrow.Author.Tests.{ne_eqb}
@@ -15,19 +15,15 @@ unfolding starts_constant
 other k i t f m p = rw (ne_eqb k INT i, ne_eqb k TRUE t, ne_eqb k FALSE f, ne_eqb k MINUS m, ne_eqb k PLUS p)
 
 pub returns-in_default : goal.returns-in_default
-returns-in_default c =
-    let n = c.in_default-1.rest.1 in
-    other _ (λ e. n (inl e)) (λ e. n (inr (inr e))) (λ e. n (inr (inl e))) (λ e. omega arith) (λ e. omega arith)
+returns-in_default c = other _ (λ e. grind arith) (λ e. grind arith) (λ e. grind arith) (λ e. omega arith) (λ e. omega arith)
 
 pub returns-in_default-2 : goal.returns-in_default-2
-returns-in_default-2 c =
-    let n = c.in_default-1.rest.1 in
-    other _ (λ e. n (inl e)) (λ e. n (inr (inr e))) (λ e. n (inr (inl e))) (λ e. omega arith) (λ e. omega arith)
+returns-in_default-2 c = other _ (λ e. grind arith) (λ e. grind arith) (λ e. grind arith) (λ e. omega arith) (λ e. omega arith)
 
 pub returns-in-2 : goal.returns-in-2
 unfolding starts_constant
-returns-in-2 c = ⊎_elim (λ e. rw e) (⊎_elim (λ e. rw e) (λ e. rw e)) c.in-2.is
+returns-in-2 c = elim c.in-2.is [ inl e ↦ rw e | inr h ↦ elim h [ inl e ↦ rw e | inr e ↦ rw e ] ]
 
 pub returns-in-2-2 : goal.returns-in-2-2
 unfolding starts_constant
-returns-in-2-2 c = ⊎_elim (λ e. rw e) (λ e. rw e) (sign_of _ c.if-kind-lt45.false (omega (arith, c.in-2.if-kind-lt47-own.true)))
+returns-in-2-2 c = elim (sign_of c.args.kind (omega arith) (omega arith)) [ inl e ↦ rw e | inr e ↦ rw e ]

@@ -1,5 +1,4 @@
 use mathlib.Core.Path.{refl}
-use Prim.Native.Nat.{◌-◌}
 use native.Mathlib.Omega.{arith}
 use Rattle.rules.specs.Syntax.{declarations}
 use Rattle.rules.specs.Cells.{decls_cells}
@@ -20,7 +19,7 @@ declaration-r-requires c =
 pub loop-memory-preserved : goal.loop-memory-preserved
 loop-memory-preserved c =
     let d = c.declaration-r.ensures in
-    let so = declares_more (omega arith) c.loop-memory.invariant.2 c.kind.ensures c.loop-memory-test.true (omega arith) d.on.0 d.on.1 in
+    let so = declares_more (omega arith) c.loop-memory.invariant.2 c.kind.ensures c.loop-memory-test.true (omega arith) d.on d.means in
     (omega arith, omega arith, so)
 
 pub returns : goal.returns

@@ -12,7 +12,7 @@ pub returns-then-kind-eq-BOOL : goal.returns-then-kind-eq-BOOL
 returns-then-kind-eq-BOOL c = type-bool (omega arith) (omega arith) _ _ c.kind.ensures c.if-kind-eq-BOOL.true c.skip.ensures c.write.ensures
 
 pub write-requires-2 : goal.write-requires-2
-write-requires-2 c = let paid = c.take-taken.ensures.paid.0 (omega arith) in omega arith
+write-requires-2 c = let paid = c.take-taken.ensures.paid (omega arith) in omega arith
 
 pub returns : goal.returns
 returns c = type-dint (omega arith) (omega arith) _ _ c.kind.ensures c.if-kind-eq-BOOL.false c.take-taken.ensures c.write-2.ensures

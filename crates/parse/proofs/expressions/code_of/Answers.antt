@@ -1,15 +1,15 @@
 use mathlib.Core.Path.{◌≡◌, refl, ap, sym}
 use mathlib.Core.Bool.{Bool, true, false}
 use Prim.Native.Nat.{ℕ}
+use native.Mathlib.Omega.{arith}
 use lib.Dec.{eqb}
 use lib.ListN.{drop}
-use borrow.Author.Rules.{rules}
 use Rattle.rules.specs.Base.{pick}
 use Rattle.rules.specs.Codes.{bin_code}
 use Rattle.rules.specs.Core.{Mul}
 use Rattle.rules.specs.Kinds.{STAR}
 use Rattle.rules.specs.Syntax.{Operator, operators, operator_of, operator}
-use Rattle.parse.proofs.Operators.{Missing, none, either, neither}
+use Rattle.parse.proofs.Operators.{Missing, none, either}
 use Rattle.parse.proofs.expressions.code_of.Goals as goal
 
 -- the code of a kind
@@ -83,4 +83,4 @@ returns-in-25 c = is c.in-25.is
 
 pub returns-in_default : goal.returns-in_default
 unfolding operators operator_of operator bin_code
-returns-in_default c = let m = neither c.in_default.in_default-own.rest.0.0.1 in rest c.args.kind (search rules depth 20)
+returns-in_default c = rest c.args.kind (grind arith)

@@ -1,8 +1,9 @@
 use mathlib.Core.Path.{◌≡◌, refl, ap, sym}
 use Prim.Native.Nat.{ℕ, ◌<◌}
 use native.Mathlib.Omega.{arith}
+use borrow.Author.Rules.{rules}
 use Rattle.rules.specs.Syntax.{operators, operator_of, operator}
-use Rattle.parse.proofs.Operators.{Missing, none, either, neither, pair}
+use Rattle.parse.proofs.Operators.{Missing, none, either, pair}
 use Rattle.parse.proofs.expressions.level_of.Goals as goal
 
 -- the level of a kind
@@ -32,33 +33,33 @@ returns-in-25 c = record { means = rw c.in-25.is; small = omega arith }
 
 pub returns-in-45 : goal.returns-in-45
 unfolding operators operator_of operator
-returns-in-45 c = record { means = either (Level 6) refl refl (pair c.if-kind-lt45.false c.in-45.if-kind-lt47-own.true); small = omega arith }
+returns-in-45 c = record { means = either (Level 6) refl refl (pair {a = 45} {k = c.args.kind} (omega arith) (omega arith)); small = omega arith }
 
 pub returns-in-49 : goal.returns-in-49
 unfolding operators operator_of operator
-returns-in-49 c = record { means = either (Level 5) refl refl (pair c.if-kind-lt37.false c.in-49.if-kind-lt39-own.true); small = omega arith }
+returns-in-49 c = record { means = either (Level 5) refl refl (pair {a = 37} {k = c.args.kind} (omega arith) (omega arith)); small = omega arith }
 
 pub returns-in-49-2 : goal.returns-in-49-2
 unfolding operators operator_of operator
-returns-in-49-2 c = record { means = either (Level 5) refl refl (pair c.if-kind-lt49.false c.in-49.if-kind-lt51-own.true); small = omega arith }
+returns-in-49-2 c = record { means = either (Level 5) refl refl (pair {a = 49} {k = c.args.kind} (omega arith) (omega arith)); small = omega arith }
 
 pub returns-in_default : goal.returns-in_default
 unfolding operators operator
 returns-in_default c =
-    let m = c.in_default-1.rest in
-    record { means = sym (ap (λ o. o.level) (none _ operators (low _ c.in_default.if-kind-lt37-own.true m.0.0.0.0.1 (neither m.0.0.1).0 m.0.1 m.1))); small = omega arith }
+    let m : Missing c.args.kind operators = grind arith in
+    record { means = sym (ap (λ o. o.level) (none _ operators m)); small = omega arith }
 
 pub returns-in_default-2 : goal.returns-in_default-2
 unfolding operators operator
 returns-in_default-2 c =
-    let m = c.in_default-1.rest in
-    record { means = sym (ap (λ o. o.level) (none _ operators (omega (arith, neither m.0.0.0.1, neither m.0.0.1)))); small = omega arith }
+    let m : Missing c.args.kind operators = grind arith in
+    record { means = sym (ap (λ o. o.level) (none _ operators m)); small = omega arith }
 
 pub returns-in_default-3 : goal.returns-in_default-3
 unfolding operators operator
 returns-in_default-3 c =
-    let m = c.in_default-1.rest in
-    record { means = sym (ap (λ o. o.level) (none _ operators (omega (arith, neither m.0.0.0.1, neither m.0.0.1)))); small = omega arith }
+    let m : Missing c.args.kind operators = search rules in
+    record { means = sym (ap (λ o. o.level) (none _ operators m)); small = omega arith }
 
 pub returns-in-47 : goal.returns-in-47
 unfolding operators operator_of operator
@@ -66,4 +67,4 @@ returns-in-47 c = record { means = rw c.in-47.is; small = omega arith }
 
 pub returns-in-47-2 : goal.returns-in-47-2
 unfolding operators operator_of operator
-returns-in-47-2 c = record { means = either (Level 7) refl refl (pair c.if-kind-lt47.false c.in-47.if-kind-lt49-own.true); small = omega arith }
+returns-in-47-2 c = record { means = either (Level 7) refl refl (pair {a = 47} {k = c.args.kind} (omega arith) (omega arith)); small = omega arith }

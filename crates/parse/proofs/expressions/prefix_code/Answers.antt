@@ -1,5 +1,6 @@
 use mathlib.Core.Path.{◌≡◌}
 use Prim.Native.Nat.{ℕ}
+use native.Mathlib.Omega.{arith}
 use borrow.Author.Tests.{ne_eqb}
 use Rattle.rules.specs.Cells.{sign_code}
 use Rattle.parse.specs.Parts.{prefix_code}
@@ -28,4 +29,4 @@ returns-in-23 c = is c.in-23.is
 
 pub returns-in_default : goal.returns-in_default
 unfolding prefix_code sign_code
-returns-in_default c = let m = c.in_default.in_default-own.rest in isn't m.0.1 m.0.0.1 m.1
+returns-in_default c = isn't {k = c.args.kind} (λ e. grind arith) (λ e. grind arith) (λ e. grind arith)

@@ -7,5 +7,5 @@ use Rattle.parse.proofs.statements.assignment.Goals as goal
 pub returns : goal.returns
 returns c =
     reading_with 0 2 2
-    (λ f h. assignment-means (le_trans c.requires.0 c.requires.2) c.named-name.ensures.means c.take-assigned.ensures.paid.1.1 (c.whole.ensures.means f (omega arith)))
-    (λ z. omega (arith, c.take-assigned.ensures.paid.0 (omega arith)))
+    (λ f h. assignment-means (le_trans c.requires.0 c.requires.2) c.named-name.ensures.means c.take-assigned.ensures.means (c.whole.ensures.means f (omega arith)))
+    (λ z. omega (arith, c.take-assigned.ensures.paid (omega arith)))

@@ -6,9 +6,9 @@ use Rattle.parse.proofs.Productions.{named-means}
 use Rattle.parse.proofs.statements.named.Goals as goal
 
 pub write-requires : goal.write-requires
-write-requires c = omega (arith, c.take-taken.ensures.paid.0 (omega arith))
+write-requires c = omega (arith, c.take-taken.ensures.paid (omega arith))
 
 pub returns : goal.returns
 returns c =
-    reading 0 (named-means _ (le_trans c.requires.0 c.requires.2) c.next-token.ensures c.take-taken.ensures.paid.1.1 c.write.ensures)
-    (λ z. omega (arith, c.take-taken.ensures.paid.0 (omega arith), longer c.args.count _ c.write.ensures.0))
+    reading 0 (named-means _ (le_trans c.requires.0 c.requires.2) c.next-token.ensures c.take-taken.ensures.means c.write.ensures)
+    (λ z. omega (arith, c.take-taken.ensures.paid (omega arith), longer c.args.count _ c.write.ensures.0))

@@ -51,10 +51,10 @@ none k n for if =
     )
 
 pub returns-in_default : goal.returns-in_default
-returns-in_default c = none _ c.in_default-1.rest.1 (λ e. omega arith) (λ e. omega arith)
+returns-in_default c = none _ (grind arith) (λ e. omega arith) (λ e. omega arith)
 
 pub returns-in_default-2 : goal.returns-in_default-2
-returns-in_default-2 c = none _ c.in_default-1.rest.1 (λ e. omega arith) (λ e. omega arith)
+returns-in_default-2 c = none _ (grind arith) (λ e. omega arith) (λ e. omega arith)
 
 pub returns-in-41 : goal.returns-in-41
 returns-in-41 c = one _ c.in-41.is
