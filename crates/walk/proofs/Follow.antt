@@ -1,23 +1,21 @@
 -- How the steps of the code follow the rules of the walk: one law for each kind of step. Assumes nothing.
 use mathlib.Core.Path.{◌≡◌, refl, sym, ap, ◌∙◌}
 use mathlib.Core.Bool.{Bool, true, false}
-use mathlib.Core.List.{List, [], ◌∷◌, ◌++◌, append_assoc}
-use Prim.Native.Nat.{ℕ, zero, suc, ◌+◌, ◌*◌, ◌≤◌}
-use native.Mathlib.Nat.{add-zero, add_assoc}
+use mathlib.Core.List.{List, [], ◌++◌, append_assoc}
+use Prim.Native.Nat.{ℕ, ◌+◌, ◌≤◌}
+use native.Mathlib.Nat.{add-zero}
 use native.Mathlib.Omega.{arith}
 use lib.Dec.{leb}
-use lib.ListN.{length, length-append, length-take, length-drop, drop, take, get_or}
+use lib.ListN.{length, length-append, length-drop, drop, take, get_or}
 use lib.Seq.{sets, length-sets, get_or-drop}
 use borrow.Author.Tests.{le-leb}
-use Rattle.rules.specs.Limits.{token_numbers, variable_limit}
-use Rattle.rules.specs.Base.{pick, Res, ok, refuse, ◌>>=◌, need}
+use Rattle.rules.specs.Base.{Res, ok, refuse, ◌>>=◌, need}
 use Rattle.rules.specs.Cells.{cell}
-use Rattle.names.specs.Laws.{plainly, rows_stay}
+use Rattle.names.specs.Laws.{rows_stay}
 use Rattle.walk.specs.Steps.{stack_start, kept, cell_at, skipped, refused_at, checked, extended, written}
 use Rattle.walk.specs.Walking.{Scope, Ready, Walked, went, fell, Did, walks, stays, When}
 use Rattle.walk.specs.declared.steps.Step.{Step}
 use Rattle.walk.specs.declared.steps.Step.TheVariants.{Ok, Bad}
-use Rattle.walk.specs.declared.steps.Cell.{Cell}
 use Rattle.walk.proofs.Stores.{sets_append, take-sets, drop-sets, take_of_sets, behind_part, start_of_take}
 
 -- where a step stands; a refusal stands nowhere

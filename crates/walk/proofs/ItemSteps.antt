@@ -5,6 +5,7 @@ use Prim.Native.Nat.{ℕ, ◌+◌, ◌≤◌}
 use native.Mathlib.Nat.{add-zero}
 use native.Mathlib.Omega.{arith}
 use lib.ListN.{length, length-append, length-drop}
+use lib.Seq.{sets}
 use Rattle.rules.specs.Limits.{memory_numbers, token_numbers}
 use Rattle.rules.specs.Base.{Res, ok, refuse, ◌>>=◌}
 use Rattle.rules.specs.Cells.{cell, type_kind}
@@ -50,11 +51,20 @@ pub answers : {σ : Scope} {Given : Type 0} {A B : Type 0} {Q : B → Type 0} {e
     → Did σ Given Q encode gain cells m m' s r (◌>>=◌ R (λ a. ok (f a))) → Did σ Given (λ a. Q (f a)) (λ a. encode (f a)) gain cells m m' s r R
 unfolding ◌>>=◌
 answers f R stays = stays
-answers {A} {B} {Q} {encode} {gain} {cells} {m} {m'} f R (walks {at} {free} d) = walks (λ g y. go R (d g y))
+answers {A} {B} {Q} {encode} {gain} {cells} {m} {m'} f R (walks {at} {free} d) = walks (λ g y. go R refl (d g y))
   where
-    go : {r : Step} (R : Res A) → Walked Q encode gain (length cells) m m' at free r (◌>>=◌ R (λ a. ok (f a))) → Walked (λ a. Q (f a)) (λ a. encode (f a)) gain (length cells) m m' at free r R
-    go (ok a) (went _ q l k e) = went a q l k e
-    go (refuse n p) fell = fell
+    arrives : (a : A) (x : B) → f a ≡ x → Q x → length m' ≡ length m → kept m' ≡ sets (kept m) free (encode x) → length (encode x) + gain ≤ length cells
+        → Walked (λ a. Q (f a)) (λ a. encode (f a)) gain (length cells) m m' at free (Ok (at + length cells) (free + length (encode x))) (ok a)
+    arrives a x h q l k e = rw (← h) (went a (rw (← h) at q) l (rw (← h) at k) (rw (← h) at e))
+
+    falls : {n p : ℕ} (o q : ℕ) → n ≡ o → p ≡ q → Walked (λ a. Q (f a)) (λ a. encode (f a)) gain (length cells) m m' at free (Bad n p) (refuse o q)
+    falls o q h k = rw (h, k) fell
+
+    go : {r : Step} (R : Res A) {S : Res B} → S ≡ ◌>>=◌ R (λ a. ok (f a)) → Walked Q encode gain (length cells) m m' at free r S → Walked (λ a. Q (f a)) (λ a. encode (f a)) gain (length cells) m m' at free r R
+    go (ok a) s (went x q l k e) = arrives a x (cc) q l k e
+    go (ok a) s fell = absurd cc
+    go (refuse n p) s (went x q l k e) = absurd cc
+    go (refuse n p) s fell = falls n p (cc) (cc)
 
 -- What is known where the walk stands
 

@@ -1,6 +1,5 @@
 -- The tables of expressions: which cells are an expression's, and what operators and signs take and give. Assumes nothing.
 use mathlib.Core.Path.{◌≡◌, refl}
-use mathlib.Core.Bool.{false}
 use mathlib.Core.Logic.{⊎_elim}
 use Prim.Native.Nat.{ℕ, zero, suc, ◌+◌, ◌≤◌, ◌<◌, max}
 use native.Mathlib.Nat.{eq-or-lt_of_le}

@@ -1,14 +1,14 @@
 -- How far each kind of step moves in the tree. Assumes nothing.
-use mathlib.Core.Path.{◌≡◌, refl, sym, ap, ◌∙◌}
+use mathlib.Core.Path.{◌≡◌, refl, sym, ◌∙◌}
 use mathlib.Core.Bool.{Bool, true, false}
 use mathlib.Core.List.{List}
 use Prim.Native.Nat.{ℕ, ◌+◌, ◌-◌, ◌≤◌}
 use native.Mathlib.Nat.{le_refl}
 use native.Mathlib.Omega.{arith}
 use lib.Dec.{leb}
-use lib.ListN.{length, length-take, get_or}
+use lib.ListN.{length, length-take}
 use lib.Seq.{sets, length-sets}
-use borrow.Author.Tests.{leb-true, leb-false}
+use borrow.Author.Tests.{leb-true}
 use Rattle.rules.specs.Base.{pick}
 use Rattle.walk.specs.Steps.{stack_start, kept, cell_at, tag_at, skipped, refused_at, checked, extended, written, left}
 use Rattle.walk.specs.declared.steps.Step.{Step}

@@ -13,7 +13,7 @@ use Rattle.rules.specs.Base.{Res, ◌>>=◌, need}
 use Rattle.rules.specs.Numbers.{dint, same_ty}
 use Rattle.rules.specs.Bytes.{to_u, of_u}
 use Rattle.rules.specs.Kinds.{DINT, DOTS, COMMA}
-use Rattle.rules.specs.Syntax.{Con, label}
+use Rattle.rules.specs.Syntax.{Con}
 use Rattle.rules.specs.Walk.{con_first, con_type, con_value, high_of, span}
 use Rattle.rules.specs.Cells.{cell, con_cells, label_cells}
 use Rattle.walk.specs.Steps.{cell_at, tag_at, checked, extended, written, left}

@@ -10,7 +10,7 @@ use lib.ListN.{length}
 use Rattle.rules.specs.Base.{Res, ok, ◌>>=◌}
 use Rattle.rules.specs.Numbers.{bool}
 use Rattle.rules.specs.Kinds.{FINISH, BOOL, THEN, ELSE, END_IF, END_CASE}
-use Rattle.rules.specs.Core.{exit, List, nil, cons, none, els, elsif, other, grp, lnil}
+use Rattle.rules.specs.Core.{exit, nil, cons, none, els, elsif, other, grp, lnil}
 use Rattle.rules.specs.Syntax.{Name, Exp, Label, Stm, Stms, empty, then, Branches, no_else, else_b, branch, Groups, no_other, else_g, group}
 use Rattle.rules.specs.Walk.{Var, condition, labels, statement, list, branches, groups}
 use Rattle.rules.specs.Cells.{cell, end_cell, type_kind, whole_cells, labels_cells, list_cells, branch_cells, group_cells}

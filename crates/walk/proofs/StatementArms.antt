@@ -82,6 +82,12 @@ module _ (text : L.List ℕ) (count : ℕ) (taken : L.List Bool) (inside : Bool)
     where
       past : (vs : L.List Var) (slots : L.List ℕ) (x : Stm) → Tagged ASSIGN x → Does m₁ r vs slots x
       past vs slots (assign_s v e) assign_t = did.1 vs slots inside v e
+      past vs slots (if_s _) u = elim u [ ]
+      past vs slots (case_s _ _) u = elim u [ ]
+      past vs slots (for_s _ _ _ _ _) u = elim u [ ]
+      past vs slots (while_s _ _) u = elim u [ ]
+      past vs slots (repeat_s _ _) u = elim u [ ]
+      past vs slots (exit_s _) u = elim u [ ]
 
   -- IF and its branches
   pub statement_if : {m₁ m₂ : L.List ℕ} {s₁ r : Step} → k ≡ IF → Heads IF m m₁ s s₁ → Moves 3 m₁ m₂ s₁ r × BranchesMean text count taken inside m₁ m₂ s₁ r
@@ -96,6 +102,12 @@ module _ (text : L.List ℕ) (count : ℕ) (taken : L.List Bool) (inside : Bool)
           heads IF IF wrote
           (bind none (body.1 vs slots b) (λ at free e. (if_in (h₁ at free e).0, (h₁ at free e).1)) (λ c any.
           gives (if c) (λ at free e. tt) refl (le_refl _)))))
+      past vs slots (assign_s _ _) u = elim u [ ]
+      past vs slots (case_s _ _) u = elim u [ ]
+      past vs slots (for_s _ _ _ _ _) u = elim u [ ]
+      past vs slots (while_s _ _) u = elim u [ ]
+      past vs slots (repeat_s _ _) u = elim u [ ]
+      past vs slots (exit_s _) u = elim u [ ]
 
   -- CASE, a selector, and its groups
   pub statement-case : {m₁ m₂ m₃ : L.List ℕ} {s₁ s₂ r : Step} → k ≡ CASE → Heads CASE m m₁ s s₁ → Moves 3 m₁ m₂ s₁ s₂ × HeldMeans text count DINT 0 m₁ m₂ s₁ s₂
@@ -112,6 +124,12 @@ module _ (text : L.List ℕ) (count : ℕ) (taken : L.List Bool) (inside : Bool)
           (bind any_expr (held.1 vs dint e) (λ at free z. ((case_in (h₁ at free z).0).0, refl)) (λ y any.
           bind (other nil) (body.1 vs slots g) (λ at free z. ((case_in (h₂ at free z).0).1, (h₂ at free z).1)) (λ w any.
           gives (case y w) (λ at free z. tt) refl (le_refl _))))))
+      past vs slots (assign_s _ _) u = elim u [ ]
+      past vs slots (if_s _) u = elim u [ ]
+      past vs slots (for_s _ _ _ _ _) u = elim u [ ]
+      past vs slots (while_s _ _) u = elim u [ ]
+      past vs slots (repeat_s _ _) u = elim u [ ]
+      past vs slots (exit_s _) u = elim u [ ]
 
   -- WHILE, a condition, and its list
   pub statement_while : {m₁ m₂ m₃ : L.List ℕ} {s₁ s₂ r : Step} → k ≡ WHILE → Heads WHILE m m₁ s s₁ → Moves 3 m₁ m₂ s₁ s₂ × HeldMeans text count BOOL 0 m₁ m₂ s₁ s₂
@@ -128,6 +146,12 @@ module _ (text : L.List ℕ) (count : ℕ) (taken : L.List Bool) (inside : Bool)
           (bind any_expr (held.1 vs bool c) (λ at free z. ((while_in (h₁ at free z).0).0, refl)) (λ y any.
           bind nil (body.1 vs slots l) (λ at free z. ((while_in (h₂ at free z).0).1, (h₂ at free z).1)) (λ w any.
           gives (while y w) (λ at free z. tt) refl (le_refl _))))))
+      past vs slots (assign_s _ _) u = elim u [ ]
+      past vs slots (if_s _) u = elim u [ ]
+      past vs slots (case_s _ _) u = elim u [ ]
+      past vs slots (for_s _ _ _ _ _) u = elim u [ ]
+      past vs slots (repeat_s _ _) u = elim u [ ]
+      past vs slots (exit_s _) u = elim u [ ]
 
   -- REPEAT, its list, and a condition
   pub statement-repeat : {m₁ m₂ m₃ : L.List ℕ} {s₁ s₂ r : Step} → k ≡ REPEAT → Heads REPEAT m m₁ s s₁ → Moves 3 m₁ m₂ s₁ s₂ × ListMeans text count taken true m₁ m₂ s₁ s₂
@@ -144,6 +168,12 @@ module _ (text : L.List ℕ) (count : ℕ) (taken : L.List Bool) (inside : Bool)
           (bind nil (body.1 vs slots l) (λ at free z. ((repeat_in (h₁ at free z).0).0, (h₁ at free z).1)) (λ w any.
           bind any_expr (held.1 vs bool c) (λ at free z. ((repeat_in (h₂ at free z).0).1, refl)) (λ y any.
           gives (repeat w y) (λ at free z. tt) refl (le_refl _))))))
+      past vs slots (assign_s _ _) u = elim u [ ]
+      past vs slots (if_s _) u = elim u [ ]
+      past vs slots (case_s _ _) u = elim u [ ]
+      past vs slots (for_s _ _ _ _ _) u = elim u [ ]
+      past vs slots (while_s _ _) u = elim u [ ]
+      past vs slots (exit_s _) u = elim u [ ]
 
   -- FOR up to its list, and its list, in which its variable is taken
   pub statement_for : {m₁ m₂ : L.List ℕ} {r : Step} (bounds : Target) {inner : L.List Bool} → k ≡ FOR → Moves 3 m m₁ s bounds.step × ForHeadMeans text count taken m m₁ s bounds
@@ -166,6 +196,12 @@ module _ (text : L.List ℕ) (count : ℕ) (taken : L.List Bool) (inside : Bool)
           bind nil (body.1 vs (b.slot.slot ∷ slots) l)
           (λ at free z. ((for_in (h₁ at free z).0).1.1.1, marked b.slot.slot (target at free z).slot (target at free z).few (h₁ at free z).1)) (λ w any.
           gives (for b.slot.slot b.initial b.last b.by w) (λ at free z. tt) refl (le_refl _))))))
+      past vs slots (assign_s _ _) u = elim u [ ]
+      past vs slots (if_s _) u = elim u [ ]
+      past vs slots (case_s _ _) u = elim u [ ]
+      past vs slots (while_s _ _) u = elim u [ ]
+      past vs slots (repeat_s _ _) u = elim u [ ]
+      past vs slots (exit_s _) u = elim u [ ]
 
   -- none of them: EXIT
   pub statement-exit : {m₁ : L.List ℕ} {r : Step} → (k ≡ ASSIGN → ⊥) → (k ≡ IF → ⊥) → (k ≡ CASE → ⊥) → (k ≡ FOR → ⊥) → (k ≡ WHILE → ⊥) → (k ≡ REPEAT → ⊥)

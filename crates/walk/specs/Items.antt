@@ -3,7 +3,7 @@ use Rattle.std.specs.Prelude.{Bool, false, ◌||◌, ◌&&◌, List, [], ◌∷�
 use Rattle.rules.specs.Base.{pick, Res, ok, refuse, ◌>>=◌, need}
 use Rattle.rules.specs.Numbers.{Ty, bool, dint, same_ty, of_bool}
 use Rattle.rules.specs.Bytes.{to_u}
-use Rattle.rules.specs.Kinds.{NAME, INT, BOOL, DINT, TRUE, FALSE, OPEN}
+use Rattle.rules.specs.Kinds.{NAME, INT, BOOL, DINT, OPEN}
 use Rattle.rules.specs.Core.{Bin, result}
 use Rattle.rules.specs.Codes.{bin_code}
 use Rattle.rules.specs.Syntax.{Name, Sign, minus, plus, inverse, Exp, named, whole, truth, paren, unary, binary}

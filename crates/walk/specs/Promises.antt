@@ -5,8 +5,8 @@ use Rattle.std.proofs.Math.Option.{Option}
 use Rattle.rules.specs.Base.{Res, ok, ◌>>=◌, member, need}
 use Rattle.rules.specs.Numbers.{Ty, dint, same_ty}
 use Rattle.rules.specs.Bytes.{to_u}
-use Rattle.rules.specs.Kinds.{ASSIGN, FOR, BY, EXIT}
-use Rattle.rules.specs.Core.{Expr, Stmt, exit}
+use Rattle.rules.specs.Kinds.{FOR, BY}
+use Rattle.rules.specs.Core.{Expr}
 use Rattle.rules.specs.Depth.{height}
 use Rattle.rules.specs.Syntax.{Name, Exp, Con, Label, Stm, assign_s, Stms, Branches, Groups, exit_s}
 use Rattle.rules.specs.Walk.{Var, Slot, Typed, con_first, con_type, con_value, exact, labels, step, first, expression, placed, selector, final, assigned, statement, list, branches, groups}

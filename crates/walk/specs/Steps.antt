@@ -1,7 +1,6 @@
 -- Where the walk stands: the tree ahead, and the core program that is written over the part of the tree behind. The stack of operands lies behind the tree.
 use Rattle.std.specs.Prelude.{Bool, List, ℕ, ◌+◌, ◌-◌, ◌≤◌, leb, length, get_or, take}
 use Rattle.std.proofs.lemmas.List.Edits.{sets}
-use Rattle.rules.specs.Limits.{token_numbers, tree_numbers}
 use Rattle.rules.specs.Base.{pick}
 use Rattle.walk.specs.declared.steps.Step.{Step}
 use Rattle.walk.specs.declared.steps.Step.TheVariants.{Ok, Bad}

@@ -1,3 +1,4 @@
+-- NAME and INT are neighbours, and so are UNARY and BINARY: the match takes them as ranges, beside the tags that it names one by one.
 use native.Mathlib.Omega.{arith}
 use Rattle.std.proofs.lemmas.Grind.{common_steps}
 use Rattle.cells.specs.Reading.{is_item}

@@ -1,4 +1,4 @@
--- `scan::bytes::is_blank` meets its contract: what is asked after each `||`, up to all five bytes.
+-- Four bytes are asked before the last `||`, and the fifth behind it.
 use native.Mathlib.Omega.{arith}
 use borrow.Author.Tests.{ne_eqb}
 use Rattle.std.proofs.lemmas.Grind.{common_steps}

@@ -19,5 +19,8 @@ returns-then-sign-eq-FALSE c = record { fine = moved-skip _ _ c.skip-behind.ensu
 
 pub returns : goal.returns
 returns c =
-    let m = c.args.memory.now in record { fine = omega (arith, moved-skip _ _ c.skip-behind.ensures, moved-skip _ _ c.skip-read.ensures, moved-check m _ _ _ _ c.check.ensures); means = integer-read c.next-sign.ensures _ refl (no_truth _ c.if-sign-eq-TRUE.false c.if-sign-eq-FALSE.false) c.skip-behind.ensures c.next-integer.ensures c.skip-read.ensures
-          (rw c.largest.ensures at c.check.ensures) refl refl c.bits_of.ensures }
+    let m = c.args.memory.now in record {
+      fine = omega (arith, moved-skip _ _ c.skip-behind.ensures, moved-skip _ _ c.skip-read.ensures, moved-check m _ _ _ _ c.check.ensures);
+      means = integer-read c.next-sign.ensures _ refl (no_truth _ c.if-sign-eq-TRUE.false c.if-sign-eq-FALSE.false) c.skip-behind.ensures c.next-integer.ensures c.skip-read.ensures
+          (rw c.largest.ensures at c.check.ensures) refl refl c.bits_of.ensures;
+    }

@@ -14,15 +14,17 @@ loop-memory-init c = (refl, omega arith, λ mₑ rₑ means. means)
 pub loop-memory-smaller : goal.loop-memory-smaller
 unfolding is_constant
 loop-memory-smaller c =
+    -- a label starts here
     let starts : is_constant (tag_at c.loop-memory.memory c.loop-memory.r) ≡ true = sym (c.is_constant.ensures ∙ ap is_constant c.tag.ensures) ∙ c.loop-memory-test.true in
-    let label-there : 3 ≤ left c.loop-memory.memory c.loop-memory.r = some-ahead _ _ (λ e. let z = ap is_constant (sym e) ∙ starts in let y : ◌≡◌ {A = ℕ} 0 1 = cc in omega arith) in
-    omega (arith, c.label-r.ensures.fine, label-there)
+    -- so a cell is ahead
+    let label_there : 3 ≤ left c.loop-memory.memory c.loop-memory.r = some-ahead _ _ (λ e. let z = ap is_constant (sym e) ∙ starts in let y : ◌≡◌ {A = ℕ} 0 1 = cc in omega arith) in
+    omega (arith, c.label-r.ensures.fine, label_there)
 
 pub loop-memory-preserved : goal.loop-memory-preserved
 loop-memory-preserved c =
-    let starts : is_constant (tag_at c.loop-memory.memory c.loop-memory.r) ≡ true = sym (c.is_constant.ensures ∙ ap is_constant c.tag.ensures) ∙ c.loop-memory-test.true in
-    (
-      omega (arith, c.label-r.auto.0, c.loop-memory.invariant.0),
+    -- a label starts here
+    let starts : is_constant (tag_at c.loop-memory.memory c.loop-memory.r) ≡ true = sym (c.is_constant.ensures ∙ ap is_constant c.tag.ensures) ∙ c.loop-memory-test.true in (
+      omega (arith, c.label-r.auto.memory, c.loop-memory.invariant.0),
       omega (arith, c.label-r.ensures.fine, c.loop-memory.invariant.1),
       λ mₑ rₑ means. c.loop-memory.invariant.2 mₑ rₑ (labels_more starts c.label-r.ensures.means means),
     )

@@ -13,51 +13,51 @@ use Rattle.walk.proofs.expressions.part.Goals as goal
 
 pub returns-in-1 : goal.returns-in-1
 returns-in-1 c =
-    let start : tie.Start = c in
-    let read : Read start.args.memory.now c.next-cell.result c.skip-behind.result start.args.step = record { cell = c.next-cell.ensures; step = c.skip-behind.ensures } in
-    let moved : Moves 3 start.args.memory.now start.args.memory.now start.args.step c.skip-behind.result = moved-skip _ start.args.step c.skip-behind.ensures in
+    -- the cell ahead was read
+    let read : Read c.args.memory.now c.next-cell.result c.skip-behind.result c.args.step = record { cell = c.next-cell.ensures; step = c.skip-behind.ensures } in
+    let moved : Moves 3 c.args.memory.now c.args.memory.now c.args.step c.skip-behind.result = moved-skip _ c.args.step c.skip-behind.ensures in
     record { fine = omega (arith, c.variable.ensures.fine, moved); means = name-arm read c.in-1.is c.variable.ensures.means }
 
 pub returns-in-2 : goal.returns-in-2
 returns-in-2 c =
-    let start : tie.Start = c in
-    let read : Read start.args.memory.now c.next-cell.result c.skip-behind.result start.args.step = record { cell = c.next-cell.ensures; step = c.skip-behind.ensures } in
-    let moved : Moves 3 start.args.memory.now start.args.memory.now start.args.step c.skip-behind.result = moved-skip _ start.args.step c.skip-behind.ensures in
-    record { fine = omega (arith, moved-stacks c.operand.ensures, moved-check start.args.memory.now _ 4 _ c.skip-behind.result c.check-small.ensures, moved); means = whole_arm read c.in-2.is c.check-small.ensures c.operand.ensures }
+    -- the cell ahead was read
+    let read : Read c.args.memory.now c.next-cell.result c.skip-behind.result c.args.step = record { cell = c.next-cell.ensures; step = c.skip-behind.ensures } in
+    let moved : Moves 3 c.args.memory.now c.args.memory.now c.args.step c.skip-behind.result = moved-skip _ c.args.step c.skip-behind.ensures in
+    record { fine = omega (arith, moved-stacks c.operand.ensures, moved-check c.args.memory.now _ 4 _ c.skip-behind.result c.check-small.ensures, moved); means = whole_arm read c.in-2.is c.check-small.ensures c.operand.ensures }
 
 pub returns-in-30 : goal.returns-in-30
 unfolding truth_kind of_bool to_u
 returns-in-30 c =
-    let start : tie.Start = c in
-    let read : Read start.args.memory.now c.next-cell.result c.skip-behind.result start.args.step = record { cell = c.next-cell.ensures; step = c.skip-behind.ensures } in
-    let moved : Moves 3 start.args.memory.now start.args.memory.now start.args.step c.skip-behind.result = moved-skip _ start.args.step c.skip-behind.ensures in
+    -- the cell ahead was read
+    let read : Read c.args.memory.now c.next-cell.result c.skip-behind.result c.args.step = record { cell = c.next-cell.ensures; step = c.skip-behind.ensures } in
+    let moved : Moves 3 c.args.memory.now c.args.memory.now c.args.step c.skip-behind.result = moved-skip _ c.args.step c.skip-behind.ensures in
     record { fine = omega (arith, moved-stacks c.operand-in-30.ensures, moved); means = truth-arm read true c.in-30.is c.operand-in-30.ensures }
 
 pub returns-in-19 : goal.returns-in-19
 unfolding truth_kind of_bool to_u
 returns-in-19 c =
-    let start : tie.Start = c in
-    let read : Read start.args.memory.now c.next-cell.result c.skip-behind.result start.args.step = record { cell = c.next-cell.ensures; step = c.skip-behind.ensures } in
-    let moved : Moves 3 start.args.memory.now start.args.memory.now start.args.step c.skip-behind.result = moved-skip _ start.args.step c.skip-behind.ensures in
+    -- the cell ahead was read
+    let read : Read c.args.memory.now c.next-cell.result c.skip-behind.result c.args.step = record { cell = c.next-cell.ensures; step = c.skip-behind.ensures } in
+    let moved : Moves 3 c.args.memory.now c.args.memory.now c.args.step c.skip-behind.result = moved-skip _ c.args.step c.skip-behind.ensures in
     record { fine = omega (arith, moved-stacks c.operand-in-19.ensures, moved); means = truth-arm read false c.in-19.is c.operand-in-19.ensures }
 
 pub returns-in-43 : goal.returns-in-43
 returns-in-43 c =
-    let start : tie.Start = c in
-    let read : Read start.args.memory.now c.next-cell.result c.skip-behind.result start.args.step = record { cell = c.next-cell.ensures; step = c.skip-behind.ensures } in
-    let moved : Moves 3 start.args.memory.now start.args.memory.now start.args.step c.skip-behind.result = moved-skip _ start.args.step c.skip-behind.ensures in
-    record { fine = omega (arith, moved-write start.args.memory.now c.skip-behind.result _ c.write.ensures, moved); means = paren-arm read c.in-43.is c.write.ensures refl }
+    -- the cell ahead was read
+    let read : Read c.args.memory.now c.next-cell.result c.skip-behind.result c.args.step = record { cell = c.next-cell.ensures; step = c.skip-behind.ensures } in
+    let moved : Moves 3 c.args.memory.now c.args.memory.now c.args.step c.skip-behind.result = moved-skip _ c.args.step c.skip-behind.ensures in
+    record { fine = omega (arith, moved-write c.args.memory.now c.skip-behind.result _ c.write.ensures, moved); means = paren-arm read c.in-43.is c.write.ensures refl }
 
 pub returns-in-53 : goal.returns-in-53
 returns-in-53 c =
-    let start : tie.Start = c in
-    let read : Read start.args.memory.now c.next-cell.result c.skip-behind.result start.args.step = record { cell = c.next-cell.ensures; step = c.skip-behind.ensures } in
-    let moved : Moves 3 start.args.memory.now start.args.memory.now start.args.step c.skip-behind.result = moved-skip _ start.args.step c.skip-behind.ensures in
+    -- the cell ahead was read
+    let read : Read c.args.memory.now c.next-cell.result c.skip-behind.result c.args.step = record { cell = c.next-cell.ensures; step = c.skip-behind.ensures } in
+    let moved : Moves 3 c.args.memory.now c.args.memory.now c.args.step c.skip-behind.result = moved-skip _ c.args.step c.skip-behind.ensures in
     record { fine = omega (arith, c.sign.ensures.fine, moved); means = sign_arm read c.in-53.is c.sign.ensures.means }
 
 pub returns-in_default : goal.returns-in_default
 returns-in_default c =
-    let start : tie.Start = c in
-    let read : Read start.args.memory.now c.next-cell.result c.skip-behind.result start.args.step = record { cell = c.next-cell.ensures; step = c.skip-behind.ensures } in
-    let moved : Moves 3 start.args.memory.now start.args.memory.now start.args.step c.skip-behind.result = moved-skip _ start.args.step c.skip-behind.ensures in
-    let n = c.in_default.in_default-own.rest in record { fine = omega (arith, c.operation.ensures.fine, moved); means = operation-arm read n.0.0.0.0.0.1 n.0.0.0.0.1 n.0.0.0.1 n.0.0.1 n.0.1 n.1 c.operation.ensures.means }
+    -- the cell ahead was read
+    let read : Read c.args.memory.now c.next-cell.result c.skip-behind.result c.args.step = record { cell = c.next-cell.ensures; step = c.skip-behind.ensures } in
+    let moved : Moves 3 c.args.memory.now c.args.memory.now c.args.step c.skip-behind.result = moved-skip _ c.args.step c.skip-behind.ensures in
+    record { fine = omega (arith, c.operation.ensures.fine, moved); means = operation-arm read (λ e. omega arith) (λ e. omega arith) (λ e. omega arith) (λ e. omega arith) (λ e. omega arith) (λ e. omega arith) c.operation.ensures.means }

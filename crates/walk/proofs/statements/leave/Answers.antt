@@ -4,5 +4,5 @@ use Rattle.walk.proofs.statements.leave.Goals as goal
 pub returns : goal.returns
 returns c =
     let a = c.args in
-    leave-does a.inside a.memory.now a.s c.next-word.ensures c.skip.ensures c.check-looped.ensures
-    c.write.ensures
+    let d = leave-does a.inside a.memory.now a.s c.next-word.ensures c.skip.ensures c.check-looped.ensures c.write.ensures in
+    record { fine = d.0; means = d.1 }
