@@ -8,7 +8,7 @@ use native.Mathlib.Nat.{le_refl, le_trans, le_of_lt}
 use native.Mathlib.Omega.{arith}
 use lib.ListN.{length}
 use Rattle.rules.specs.Kinds.{FINISH, ELSE, END_IF, THEN}
-use Rattle.rules.specs.Core.{List, Brs, nil, cons, none, els, elsif, other, grp}
+use Rattle.rules.specs.Core.{Brs, nil, cons, none, els, elsif, other, grp}
 use Rattle.rules.specs.Cells.{end_cell}
 use Rattle.rules.specs.Codes.{JUMP, JZ, DROP, enc_all}
 use Rattle.rules.specs.Translation.{size_e, size_lb, size_l, size_b, size_g, jlen, jmp, code_l, code_b, code_g}

@@ -5,7 +5,7 @@ use mathlib.Core.List.{[], ◌∷◌, ◌++◌, append-nil, append_assoc}
 use Prim.Native.Nat.{ℕ, suc, ◌+◌, ◌/◌, ◌%◌, ◌≤◌}
 use native.Mathlib.Omega.{arith}
 use lib.ListN.{length, drop}
-use Rattle.rules.specs.Core.{Stmt, List, for, while, repeat}
+use Rattle.rules.specs.Core.{Stmt, for, while, repeat}
 use Rattle.rules.specs.Bytes.{to_u, put4}
 use Rattle.rules.specs.Kinds.{BY}
 use Rattle.rules.specs.Cells.{cell}

@@ -8,7 +8,7 @@ use lib.ListN.{drop}
 use Rattle.rules.specs.Kinds.{CASE, EXIT, FOR, IF, REPEAT, WHILE, ASSIGN}
 use Rattle.rules.specs.Core.{Stmt, assign, if, case, for, while, repeat, exit}
 use Rattle.rules.specs.Cells.{cell}
-use Rattle.rules.specs.Codes.{TICK, STORE, enc, enc_all}
+use Rattle.rules.specs.Codes.{TICK, enc, enc_all}
 use Rattle.rules.specs.Translation.{size_s, size_e, size_b, size_g, code_s}
 use Rattle.rules.specs.CoreCells.{stmt_cells}
 use Rattle.theorems.specs.Fields.{FitS}

@@ -1,4 +1,3 @@
-use Prim.Native.Nat.{◌-◌}
 use native.Mathlib.Omega.{arith}
 use Rattle.emit.proofs.SizeSums.{fewer}
 use Rattle.emit.proofs.SizeLists.{list_start, list-turn, list_done, branches_start, branch-moves, branches-turn, branches_else, branches_done, groups_start, label-ahead, group-moves, groups-turn, groups_done}

@@ -1,5 +1,4 @@
 use mathlib.Core.Path.{refl, ◌∙◌}
-use Prim.Native.Nat.{◌-◌}
 use native.Mathlib.Omega.{arith}
 use Rattle.emit.proofs.SizeSums.{fewer}
 use Rattle.emit.proofs.LoopCodes.{for_code, while_code, repeat-code}
@@ -14,23 +13,21 @@ pub branches-loop-q-smaller-then-leap-eq3 : goal.branches-loop-q-smaller-then-le
 branches-loop-q-smaller-then-leap-eq3 t c = branch_less _ _ _ _ c.tag_at.ensures c.loop-q-test.true c.behind.ensures c.held-condition.ensures.fine c.list-body.ensures.fine
 
 pub branches-loop-q-preserved-then-leap-eq3 : goal.branches-loop-q-preserved-then-leap-eq3
-branches-loop-q-preserved-then-leap-eq3 t c =
-    (
-      c.jump-then-leap-eq3.auto.code ∙ c.list-body.auto.code ∙ c.jump.auto.code ∙ c.held-condition.auto.code ∙ c.loop-q.invariant.0,
-      turned_on c.loop-q.invariant.1 (branch-turn c.tag_at.ensures c.loop-q-test.true c.behind.ensures c.held-condition.ensures c.list-size.ensures c.jump_size-leap.ensures c.sum.ensures c.sum-in-loop-q.ensures c.sum-other.ensures
-          c.jump.ensures c.list-body.ensures (leapt-jump c.if-leap-eq3.true c.jump-then-leap-eq3.ensures)),
-    )
+branches-loop-q-preserved-then-leap-eq3 t c = (
+  c.jump-then-leap-eq3.auto.code ∙ c.list-body.auto.code ∙ c.jump.auto.code ∙ c.held-condition.auto.code ∙ c.loop-q.invariant.0,
+  turned_on c.loop-q.invariant.1 (branch-turn c.tag_at.ensures c.loop-q-test.true c.behind.ensures c.held-condition.ensures c.list-size.ensures c.jump_size-leap.ensures c.sum.ensures c.sum-in-loop-q.ensures c.sum-other.ensures
+      c.jump.ensures c.list-body.ensures (leapt-jump c.if-leap-eq3.true c.jump-then-leap-eq3.ensures)),
+)
 
 pub branches-loop-q-smaller : goal.branches-loop-q-smaller
 branches-loop-q-smaller t c = branch_less _ _ _ _ c.tag_at.ensures c.loop-q-test.true c.behind.ensures c.held-condition.ensures.fine c.list-body.ensures.fine
 
 pub branches-loop-q-preserved : goal.branches-loop-q-preserved
-branches-loop-q-preserved t c =
-    (
-      c.list-body.auto.code ∙ c.jump.auto.code ∙ c.held-condition.auto.code ∙ c.loop-q.invariant.0,
-      turned_on c.loop-q.invariant.1 (branch-turn c.tag_at.ensures c.loop-q-test.true c.behind.ensures c.held-condition.ensures c.list-size.ensures c.jump_size-leap.ensures c.sum.ensures c.sum-in-loop-q.ensures c.sum-other.ensures
-          c.jump.ensures c.list-body.ensures (leapt-none c.if-leap-eq3.false)),
-    )
+branches-loop-q-preserved t c = (
+  c.list-body.auto.code ∙ c.jump.auto.code ∙ c.held-condition.auto.code ∙ c.loop-q.invariant.0,
+  turned_on c.loop-q.invariant.1 (branch-turn c.tag_at.ensures c.loop-q-test.true c.behind.ensures c.held-condition.ensures c.list-size.ensures c.jump_size-leap.ensures c.sum.ensures c.sum-in-loop-q.ensures c.sum-other.ensures
+      c.jump.ensures c.list-body.ensures (leapt-none c.if-leap-eq3.false)),
+)
 
 pub branches-returns-then-tag_at-eq-ELSE : goal.branches-returns-then-tag_at-eq-ELSE
 branches-returns-then-tag_at-eq-ELSE t c = turned_done c.loop-q.invariant.1 (else_last c.tag_at-2.ensures c.if-tag_at-eq-ELSE.true c.behind-2.ensures c.list.ensures)
@@ -66,12 +63,11 @@ pub groups-loop-tests-smaller : goal.groups-loop-tests-smaller
 groups-loop-tests-smaller t c = group_less _ _ _ _ c.tag_at.ensures c.is_label.ensures c.loop-tests-test.true c.labels-tested.ensures.fine c.list-done.ensures.fine
 
 pub groups-loop-tests-preserved : goal.groups-loop-tests-preserved
-groups-loop-tests-preserved t c =
-    (
-      c.jump.auto.code ∙ c.list-done.auto.code ∙ c.alone.auto.code ∙ c.jump-leapt.auto.code ∙ c.labels-tested.auto.code ∙ c.loop-tests.invariant.0,
-      turned_on c.loop-tests.invariant.1 (group-turn c.tag_at.ensures c.is_label.ensures c.loop-tests-test.true c.labels-tests.ensures c.sum.ensures c.sum-body.ensures c.labels-tested.ensures c.list-size.ensures c.sum-in-loop-tests.ensures c.sum-in-loop-tests-2.ensures
-          c.jump-leapt.ensures c.alone.ensures c.list-done.ensures c.jump.ensures),
-    )
+groups-loop-tests-preserved t c = (
+  c.jump.auto.code ∙ c.list-done.auto.code ∙ c.alone.auto.code ∙ c.jump-leapt.auto.code ∙ c.labels-tested.auto.code ∙ c.loop-tests.invariant.0,
+  turned_on c.loop-tests.invariant.1 (group-turn c.tag_at.ensures c.is_label.ensures c.loop-tests-test.true c.labels-tests.ensures c.sum.ensures c.sum-body.ensures c.labels-tested.ensures c.list-size.ensures c.sum-in-loop-tests.ensures c.sum-in-loop-tests-2.ensures
+      c.jump-leapt.ensures c.alone.ensures c.list-done.ensures c.jump.ensures),
+)
 
 pub groups-returns : goal.groups-returns
 groups-returns t c = turned_done c.loop-tests.invariant.1 (other_last c.tag_at.ensures c.is_label.ensures c.loop-tests-test.false c.alone-2.ensures c.list.ensures)
