@@ -1,16 +1,15 @@
 -- The cells of an expression and of labels, and the bytes of their code, one by one, as the loops of `expressions` pass and put them. Assumes nothing.
-use mathlib.Core.Path.{◌≡◌, refl, sym, ap, ◌∙◌, subst}
-use mathlib.Core.Bool.{Bool, true, false, ◌||◌}
+use mathlib.Core.Path.{◌≡◌, refl, ap, subst}
+use mathlib.Core.Bool.{Bool, true, false}
 use mathlib.Core.List.{List, [], ◌∷◌, ◌++◌, append_assoc, append-nil}
 use Prim.Native.Nat.{ℕ, ◌/◌, ◌%◌, ◌≤◌}
 use native.Mathlib.Omega.{arith}
 use lib.Dec.{eqb}
-use Rattle.rules.specs.Base.{pick}
 use Rattle.rules.specs.Numbers.{of_bool}
 use Rattle.rules.specs.Bytes.{to_u, put2, put4}
 use Rattle.rules.specs.Kinds.{NAME, INT, TRUE, FALSE, OPEN, COMMA, COLON}
 use Rattle.rules.specs.Core.{Un, Neg, Not, Bin, Mul, Div, Mod, Add, Sub, Lt, Gt, Le, Ge, Eq, Ne, And, Xor, Or, Expr, num, flag, var, un, bin, pls, par, Labels, lnil, lab}
-use Rattle.rules.specs.Codes.{CONST, LOAD, UN, BIN, JNZ, SPAN, un_code, bin_code, enc, enc_all}
+use Rattle.rules.specs.Codes.{UN, BIN, JNZ, SPAN, un_code, bin_code, enc, enc_all}
 use Rattle.rules.specs.Translation.{code_e, code_lb}
 use Rattle.rules.specs.Cells.{cell, truth_kind, UNARY, BINARY}
 use Rattle.rules.specs.CoreCells.{expr_cells, span_cells}

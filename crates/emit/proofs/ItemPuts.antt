@@ -1,15 +1,12 @@
 -- What `item` of `expressions` puts, tag by tag: the bytes that a cell stands for. Assumes nothing.
 use mathlib.Core.Path.{◌≡◌, refl, sym}
-use mathlib.Core.Bool.{◌||◌}
 use mathlib.Core.List.{List, [], ◌∷◌}
 use mathlib.Core.Logic.{inl, inr}
 use Prim.Native.Nat.{ℕ, ◌%◌}
 use native.Mathlib.Nat.{add-zero}
 use native.Mathlib.Omega.{arith}
-use lib.Dec.{eqb}
 use borrow.Author.Tests.{ne_eqb}
 use types.Run.{OneOf}
-use Rattle.rules.specs.Base.{pick}
 use Rattle.rules.specs.Bytes.{put4}
 use Rattle.rules.specs.Kinds.{NAME, INT, TRUE, FALSE}
 use Rattle.rules.specs.Cells.{UNARY, BINARY}

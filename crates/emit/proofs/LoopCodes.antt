@@ -5,7 +5,7 @@ use mathlib.Core.List.{[], ◌∷◌, ◌++◌, append-nil, append_assoc}
 use Prim.Native.Nat.{ℕ, suc, ◌+◌, ◌/◌, ◌%◌, ◌≤◌}
 use native.Mathlib.Omega.{arith}
 use lib.ListN.{length, drop}
-use Rattle.rules.specs.Core.{Stmt, List, for, while, repeat}
+use Rattle.rules.specs.Core.{Stmt, for, while, repeat}
 use Rattle.rules.specs.Bytes.{to_u, put4}
 use Rattle.rules.specs.Kinds.{BY}
 use Rattle.rules.specs.Cells.{cell}
@@ -48,20 +48,20 @@ pub while_code : (start : ℕ) {m code code₁ code₂ code₃ code₄ : L.List 
     → Writes code₁ code₂ condition.code (22 ∷ (end % 256) ∷ (end / 256 % 256) ∷ []) tested
     → ListDone (record { exit = end; fors = around.fors; levels = around.levels }) m code₂ code₃ (record { at = condition.at; code = tested }) body
     → Writes code₃ code₄ body.code (21 ∷ (start % 256) ∷ (start / 256 % 256) ∷ []) last
-    → Moves m p.at body.at × WhileCode start around m code code₄ p (record { at = body.at; code = last })
+    → record { fine : Moves m p.at body.at; means : WhileCode start around m code code₄ p (record { at = body.at; code = last }) }
 unfolding stmt_cells code_s cell size_s levels_s
-while_code start {m} {around} w size part end leap body back = (
-  onward m _ _ _ w.0 body.0,
-  λ c l f g at. rest_if (while c l) start around.exit around.fors refl at (λ lies room.
-      held_on 0 c _ f.0 w.1 (λ e₁ lies₁.
-      let s = size_exact _ (size_l l) (size.1 l lies₁ (omega arith)) (omega arith) in
+while_code start {m} {around} w size part end leap body back = record {
+  fine = onward m _ _ _ w.fine body.fine;
+  means = λ c l f g at. rest_if (while c l) start around.exit around.fors refl at (λ lies room.
+      held_on 0 c _ f.0 w.means (λ e₁ lies₁.
+      let s = size_exact _ (size_l l) (size.means l lies₁ (omega arith)) (omega arith) in
       let u = sum-exact _ _ part (omega arith) (omega arith) in
       let v = sum-exact _ _ end (omega arith) (omega arith) in
       let z = start + 1 + size_e c + 3 + size_l l + 3 in
       instr_on (JZ z) _ (jz_to z (omega arith) (omega arith) leap) (λ e₂.
-      ends (list_on l (start + 1 + size_e c + 3) z around.fors _ f.1 (omega arith) body.1 (omega arith) (omega arith) refl (λ e₃ lies₃.
-      wrote_put m (jump_to start refl (omega arith) back)))))),
-)
+      ends (list_on l (start + 1 + size_e c + 3) z around.fors _ f.1 (omega arith) body.means (omega arith) (omega arith) refl (λ e₃ lies₃.
+      wrote_put m (jump_to start refl (omega arith) back))))));
+}
 
 -- REPEAT: the list, the condition, and back to the start while it is FALSE
 pub repeat-code : (start : ℕ) {m code code₁ code₂ code₃ : L.List ℕ} {p body condition : Place} {around : Around} {size test : Sized} {one two end last : ℕ}
@@ -69,22 +69,22 @@ pub repeat-code : (start : ℕ) {m code code₁ code₂ code₃ : L.List ℕ} {p
     → one ≡ sum p.code size.size → two ≡ sum test.size 3 → end ≡ sum one two
     → ListDone (record { exit = end; fors = around.fors; levels = around.levels }) m code code₁ p body → HeldDone m code₁ code₂ body condition
     → Writes code₂ code₃ condition.code (22 ∷ (start % 256) ∷ (start / 256 % 256) ∷ []) last
-    → Moves m p.at condition.at × RepeatCode start around m code code₃ p (record { at = condition.at; code = last })
+    → record { fine : Moves m p.at condition.at; means : RepeatCode start around m code code₃ p (record { at = condition.at; code = last }) }
 unfolding stmt_cells code_s cell size_s levels_s
-repeat-code start {m} {p} {around} size test one two end body w back = (
-  onward m _ _ _ body.0 w.0,
-  λ l c f g at. rest_if (repeat l c) start around.exit around.fors refl at (λ lies room.
-      let sized = size.1 l (lies_first (body_cells l) (held_cells 0 c) lies) (omega arith) in
+repeat-code start {m} {p} {around} size test one two end body w back = record {
+  fine = onward m _ _ _ body.fine w.fine;
+  means = λ l c f g at. rest_if (repeat l c) start around.exit around.fors refl at (λ lies room.
+      let sized = size.means l (lies_first (body_cells l) (held_cells 0 c) lies) (omega arith) in
       let behind = subst (λ i. Lies m i (held_cells 0 c)) (sym (ap (λ s. s.at) sized)) (lies_rest (body_cells l) (held_cells 0 c) lies) in
       let s = size_exact _ (size_l l) sized (omega arith) in
-      let t = size_exact _ (size_e c) (test.1 0 c behind) (omega arith) in
+      let t = size_exact _ (size_e c) (test.means 0 c behind) (omega arith) in
       let u = sum-exact _ _ one (omega arith) (omega arith) in
       let v = sum-exact _ _ two (omega arith) (omega arith) in
       let y = sum-exact _ _ end (omega arith) (omega arith) in
-      list_on l (start + 1) (start + 1 + size_l l + size_e c + 3) around.fors _ f.0 (omega arith) body.1 at (omega arith) refl (λ e₁ lies₁.
-      ends (held_on 0 c _ f.1 w.1 (λ e₂ lies₂.
-      wrote_put m (jz_to start refl (omega arith) back))))),
-)
+      list_on l (start + 1) (start + 1 + size_l l + size_e c + 3) around.fors _ f.0 (omega arith) body.means at (omega arith) refl (λ e₁ lies₁.
+      ends (held_on 0 c _ f.1 w.means (λ e₂ lies₂.
+      wrote_put m (jz_to start refl (omega arith) back)))));
+}
 
 -- FOR: the bounds, the held final value, the first test; at each pass a tick, the list, and the step
 pub for_code : (slot : ℕ) {m code code₁ code₂ code₃ code₄ code₅ code₆ code₇ code₈ : L.List ℕ} {p initial last body : Place} {around : Around} {by : Cell} {size : Sized}
@@ -98,19 +98,19 @@ pub for_code : (slot : ℕ) {m code code₁ code₂ code₃ code₄ code₅ code
     → fors ≡ sum around.fors 1
     → ListDone (record { exit = end; fors = fors; levels = around.levels }) m code₆ code₇ (record { at = next; code = ticked }) body
     → Writes code₇ code₈ body.code (28 ∷ (around.fors % 256) ∷ (slot % 256) ∷ put4 by.datum ((top % 256) ∷ (top / 256 % 256) ∷ [])) done
-    → Moves m p.at body.at × ForCode slot around m code code₈ p (record { at = body.at; code = done })
+    → record { fine : Moves m p.at body.at; means : ForCode slot around m code code₈ p (record { at = body.at; code = done }) }
 unfolding stmt_cells code_s cell size_s levels_s
-for_code slot {m} {last} {around} w v by is size top part end kept stored first tick count body step = (
-  onward m _ _ _ (onward m _ _ _ w.0 v.0) (onward m _ _ _ (past_cell m last.at is) body.0),
-  λ start a e s l f g at. rest_if (for slot a e s l) start around.exit around.fors refl at (λ lies room.
+for_code slot {m} {last} {around} w v by is size top part end kept stored first tick count body step = record {
+  fine = onward m _ _ _ (onward m _ _ _ w.fine v.fine) (onward m _ _ _ (past_cell m last.at is) body.fine);
+  means = λ start a e s l f g at. rest_if (for slot a e s l) start around.exit around.fors refl at (λ lies room.
       let n = around.fors in
       let t = start + 1 + size_e a + size_e e + 2 + 2 + 9 in
       let z = t + 1 + size_l l + 9 in
-      simp append_assoc (held_on 0 a _ f.1 w.1 (λ e₁ lies₁.
-      held_on 1 e _ f.2 v.1 (λ e₂ lies₂.
+      simp append_assoc (held_on 0 a _ f.1 w.means (λ e₁ lies₁.
+      held_on 1 e _ f.2 v.means (λ e₂ lies₂.
       let d = ap (λ (c : Cell). c.datum) (by ∙ cell_lies BY 0 (to_u s) (body_cells l) lies₂) in
       past_on BY 0 (to_u s) is (λ lies₃.
-      let y = size_exact _ (size_l l) (size.1 l lies₃ (omega arith)) (omega arith) in
+      let y = size_exact _ (size_l l) (size.means l lies₃ (omega arith)) (omega arith) in
       let top' = sum-exact _ _ top (omega arith) (omega arith) in
       let part' = sum-exact _ _ part (omega arith) (omega arith) in
       let end' = sum-exact _ _ end (omega arith) (omega arith) in
@@ -119,6 +119,6 @@ for_code slot {m} {last} {around} w v by is size top part end kept stored first 
       instr_on (STORE slot) _ (put_store slot f.0 stored) (λ e₄.
       instr_on (FIRST n slot s z) _ (first_to n slot s z (omega arith) f.0 d (omega arith) (omega arith) first) (λ e₅.
       instr_on TICK _ (put_tick tick) (λ e₆.
-      ends (list_on l (t + 1) z (suc n) _ f.4 (omega arith) body.1 (omega arith) (omega arith) (omega arith) (λ e₇ lies₇.
-      wrote_put m (next_to n slot s t (omega arith) f.0 d (omega arith) (omega arith) step)))))))))))),
-)
+      ends (list_on l (t + 1) z (suc n) _ f.4 (omega arith) body.means (omega arith) (omega arith) (omega arith) (λ e₇ lies₇.
+      wrote_put m (next_to n slot s t (omega arith) f.0 d (omega arith) (omega arith) step))))))))))));
+}

@@ -1,13 +1,10 @@
 -- What `put` of `codes` comes to: bytes that are too far out, too many, or for which there is no room are not put. Assumes nothing.
 use mathlib.Core.Path.{◌≡◌, ◌∙◌}
-use mathlib.Core.Bool.{true, false, ◌&&◌}
+use mathlib.Core.Bool.{true, false}
 use mathlib.Core.List.{List}
 use Prim.Native.Nat.{ℕ, ◌+◌, ◌≤◌, ◌<◌}
-use lib.Dec.{leb}
 use lib.ListN.{length}
-use lib.Seq.{sets}
 use borrow.Author.Tests.{le-leb, lt-leb}
-use Rattle.rules.specs.Base.{pick}
 use Rattle.writing.specs.Puts.{fits, put_at}
 use Rattle.emit.specs.Places.{may_put, code_put, behind_put}
 use Rattle.emit.proofs.CodeBytes.{Writes}

@@ -7,9 +7,9 @@ use native.Mathlib.Nat.{zero-add, add-zero, suc-add}
 use native.Mathlib.Omega.{arith}
 use lib.ListN.{length, set, take, drop, length-append, length-drop, take-append-drop}
 use lib.Seq.{sets, length-sets, length-take-le, take_all, drop-length}
-use Rattle.rules.specs.Bytes.{put2, put4, record_of}
+use Rattle.rules.specs.Bytes.{put2, record_of}
 use Rattle.rules.specs.Core.{List, Variable}
-use Rattle.rules.specs.Translation.{code_of, size_l}
+use Rattle.rules.specs.Translation.{code_of}
 use Rattle.rules.specs.Image.{var_bytes, figure_bytes}
 use Rattle.writing.specs.Puts.{put_at}
 use Rattle.writing.proofs.Buffers.{sets_append, put_in}

@@ -119,7 +119,10 @@ pub held_done : {m : List ℕ} {i : ℕ} {s : Sized} {tag j : ℕ} {b : Bool} �
 unfolding tail_cells tail_size cell held_cells
 held_done {m} {i} {s} {tag} {j} {b} old sees tests fails past =
     let d = loop_done tail_cells tail_size flat m 0 old (past_cell m s.at past) (λ x l few whole. last x.depth x.items l whole) in
-    (d.0, λ more e l. d.1 (record { words = expr_cells e; count = size_e e; items = items_of e; depth = height e + more }) l (omega arith))
+    record {
+      fine = d.fine;
+      means = λ more e l. d.means (record { words = expr_cells e; count = size_e e; items = items_of e; depth = height e + more }) l (omega arith);
+    }
   where
     last : (depth : ℕ) {w : List ℕ} {z : ℕ} (u : Items w z) → Lies m s.at (w ++ cell WHOLE 0 depth) → capped s.size ≡ s.size
         → End tail_cells tail_size s (record { words = w; count = z; items = u; depth = depth }) (record { at = j; size = s.size })
@@ -153,7 +156,7 @@ pub labels_done : {m : List ℕ} {i : ℕ} {s : Sized} {tag j : ℕ} → LabelsL
 unfolding span_cells size_lb head_lb cell
 labels_done {m} {i} {s} {tag} {j} old sees none past =
     let d = loop_done span_cells size_lb flat m 0 old (past_cell m s.at past) last in
-    (d.0, λ ls l. d.1 ls l (omega arith))
+    record { fine = d.fine; means = λ ls l. d.means ls l (omega arith) }
   where
     last : (x : Labels) → Lies m s.at (span_cells x) → 0 ≤ 0 → capped s.size ≡ s.size → End span_cells size_lb s x (record { at = j; size = s.size })
     last lnil l few whole = end_past span_cells size_lb flat m 0 _ COLON 0 0 refl refl past l whole

@@ -31,7 +31,7 @@ list_start m levels i = loop_start body_cells size_l nest_l m levels i
 pub list-turn : {m : L.List ℕ} {levels i tag n : ℕ} {s one : Sized} → ListLoop m levels i s → tag ≡ (cell_in m s.at).tag → (tag ≡ FINISH → ⊥)
     → StatementDoes m s.at levels one → n ≡ capped (s.size + one.size) → ListLoop m levels i (record { at = one.at; size = n })
 unfolding body_cells size_l levels_l head_l
-list-turn {m} {levels} {i} {tag} {n} {s} {one = r} old sees more one adds = loop_turn body_cells size_l nest_l m levels old one.0 go
+list-turn {m} {levels} {i} {tag} {n} {s} {one = r} old sees more one adds = loop_turn body_cells size_l nest_l m levels old one.fine go
   where
     go : Loop body_cells size_l nest_l m levels s (record { at = r.at; size = n })
     go nil l few = absurd (more (sees ∙ tag-list nil l))
@@ -61,7 +61,7 @@ pub branch-moves : {m : L.List ℕ} {levels next : ℕ} {condition body : Sized}
     → ListDoes m condition.at levels body
     → Moves m i body.at
 branch-moves {m} {next = next} {condition = c} {body = b} i past condition body =
-    onward m i next b.at (past_cell m i past) (onward m next c.at b.at condition.0 body.0)
+    onward m i next b.at (past_cell m i past) (onward m next c.at b.at condition.fine body.fine)
 
 -- a JUMP stands behind a list unless END_IF follows
 pub jumps : (b : Brs) → jump_size (head_b b) ≡ jlen b
@@ -94,7 +94,7 @@ pub branches_else : {m : L.List ℕ} {levels i tag next n : ℕ} {s rest : Sized
     → ListDoes m next levels rest → n ≡ capped (s.size + rest.size) → BranchesDo m i levels (record { at = rest.at; size = n })
 unfolding brs_cells size_b levels_b head_b
 branches_else {m} {levels} {i} {tag} {next} {n} {s} {rest} old sees is past list adds =
-    loop_done brs_cells size_b nest_b m levels old (onward m s.at next rest.at (past_cell m s.at past) list.0) last
+    loop_done brs_cells size_b nest_b m levels old (onward m s.at next rest.at (past_cell m s.at past) list.fine) last
   where
     last : (y : Brs) → Lies m s.at (brs_cells y) → nest_b y ≤ levels → capped s.size ≡ s.size → End brs_cells size_b s y (record { at = rest.at; size = n })
     last none l few whole = let h = tag-branches none l in absurd (omega arith)
@@ -129,7 +129,7 @@ label-ahead tests holds e = let z : true ≡ false = sym holds ∙ tests ∙ ap 
 
 -- a group moves on
 pub group-moves : {m : L.List ℕ} {levels i : ℕ} {tests body : Sized} → LabelsDo m i tests → ListDoes m tests.at levels body → Moves m i body.at
-group-moves {m} {i} {tests = t} {body = b} tests body = onward m i t.at b.at tests.0 body.0
+group-moves {m} {i} {tests = t} {body = b} tests body = onward m i t.at b.at tests.fine body.fine
 
 -- a group is read
 pub groups-turn : {m : L.List ℕ} {levels i tag p q o n : ℕ} {b : Bool} {s tests body : Sized} → GroupsLoop m levels i s → tag ≡ (cell_in m s.at).tag
@@ -155,7 +155,7 @@ pub groups_done : {m : L.List ℕ} {levels i tag p n : ℕ} {b : Bool} {s rest :
     → b ≡ false
     → ListDoes m s.at levels rest → p ≡ capped (s.size + 1) → n ≡ capped (p + rest.size) → GroupsDo m i levels (record { at = rest.at; size = n })
 unfolding grps_cells size_g levels_g head_g
-groups_done {m} {levels} {i} {tag} {p} {n} {b} {s} {rest} old sees label fails list adds sums = loop_done grps_cells size_g nest_g m levels old list.0 last
+groups_done {m} {levels} {i} {tag} {p} {n} {b} {s} {rest} old sees label fails list adds sums = loop_done grps_cells size_g nest_g m levels old list.fine last
   where
     last : (y : Grps) → Lies m s.at (grps_cells y) → nest_g y ≤ levels → capped s.size ≡ s.size → End grps_cells size_g s y (record { at = rest.at; size = n })
     last (other y) l few whole = end_by grps_cells size_g nest_g m levels (other y) (counts-list list y few) 1 (add_on _ _ adds sums) (omega arith) (omega arith) l

@@ -99,8 +99,8 @@ module _ {A : Type 0} (cells : A → List ℕ) (size nest : A → ℕ) (m : List
   -- the loop ends: what is still ahead is read
   pub loop_done : {i : ℕ} {s r : Sized} → Looped i s → Moves m s.at r.at
       → ((y : A) → Lies m s.at (cells y) → nest y ≤ levels → capped s.size ≡ s.size → End cells size s y r)
-      → Moves m i r.at × ((x : A) → Lies m i (cells x) → nest x ≤ levels → r ≡ sized (i + length (cells x)) (size x))
-  loop_done {i} {s} {r} old moves last = (let o = old.0 in omega arith, all)
+      → record { fine : Moves m i r.at; means : (x : A) → Lies m i (cells x) → nest x ≤ levels → r ≡ sized (i + length (cells x)) (size x) }
+  loop_done {i} {s} {r} old moves last = record { fine = let o = old.0 in omega arith; means = all }
     where
       all : (x : A) → Lies m i (cells x) → nest x ≤ levels → r ≡ sized (i + length (cells x)) (size x)
       all x l few =

@@ -71,51 +71,51 @@ counts_then {m} {a} {b} {x} {y} {x'} {y'} {i} {j} {k} v w = record { counts = bo
 
 -- what the functions promise: they move on, and they read the size
 abbrev pub HeldDoes : List ℕ → ℕ → Sized → Type 0
-HeldDoes m i r = Moves m i r.at × HeldSize m i r
+HeldDoes m i r = record { fine : Moves m i r.at; means : HeldSize m i r }
 
 abbrev pub LabelsDo : List ℕ → ℕ → Sized → Type 0
-LabelsDo m i r = Moves m i r.at × LabelsSize m i r
+LabelsDo m i r = record { fine : Moves m i r.at; means : LabelsSize m i r }
 
 abbrev pub StatementDoes : List ℕ → ℕ → ℕ → Sized → Type 0
-StatementDoes m i levels r = Moves m i r.at × StatementSize m i levels r
+StatementDoes m i levels r = record { fine : Moves m i r.at; means : StatementSize m i levels r }
 
 abbrev pub CompoundDoes : List ℕ → ℕ → ℕ → Sized → Type 0
-CompoundDoes m i levels r = Moves m i r.at × CompoundSize m i levels r
+CompoundDoes m i levels r = record { fine : Moves m i r.at; means : CompoundSize m i levels r }
 
 abbrev pub ListDoes : List ℕ → ℕ → ℕ → Sized → Type 0
-ListDoes m i levels r = Moves m i r.at × ListSize m i levels r
+ListDoes m i levels r = record { fine : Moves m i r.at; means : ListSize m i levels r }
 
 abbrev pub BranchesDo : List ℕ → ℕ → ℕ → Sized → Type 0
-BranchesDo m i levels r = Moves m i r.at × BranchesSize m i levels r
+BranchesDo m i levels r = record { fine : Moves m i r.at; means : BranchesSize m i levels r }
 
 abbrev pub GroupsDo : List ℕ → ℕ → ℕ → Sized → Type 0
-GroupsDo m i levels r = Moves m i r.at × GroupsSize m i levels r
+GroupsDo m i levels r = record { fine : Moves m i r.at; means : GroupsSize m i levels r }
 
 -- a part that they read
 counted : {m cells : List ℕ} {size i : ℕ} {r : Sized} → (Lies m i cells → r ≡ sized (i + length cells) size) → Counts m cells size r.size i r.at
 counted h = record { counts = λ l. (ap (λ s. s.at) (h l), ap (λ s. capped s.size) (h l) ∙ capped_twice _) }
 
 pub counts_held : {m : List ℕ} {i : ℕ} {r : Sized} → HeldDoes m i r → (more : ℕ) (e : Expr) → Counts m (held_cells more e) (size_e e) r.size i r.at
-counts_held h more e = counted (h.1 more e)
+counts_held h more e = counted (h.means more e)
 
 pub counts-labels : {m : List ℕ} {i : ℕ} {r : Sized} → LabelsDo m i r → (ls : Labels) → Counts m (span_cells ls) (size_lb ls) r.size i r.at
-counts-labels h ls = counted (h.1 ls)
+counts-labels h ls = counted (h.means ls)
 
 pub counts-statement : {m : List ℕ} {i levels : ℕ} {r : Sized} → StatementDoes m i levels r → (x : core.Stmt) → nest_s x ≤ levels
     → Counts m (stmt_cells x) (size_s x) r.size i r.at
-counts-statement h x few = counted (λ l. h.1 x l few)
+counts-statement h x few = counted (λ l. h.means x l few)
 
 pub counts-list : {m : List ℕ} {i levels : ℕ} {r : Sized} → ListDoes m i levels r → (x : core.List) → nest_l x ≤ levels
     → Counts m (body_cells x) (size_l x) r.size i r.at
-counts-list h x few = counted (λ l. h.1 x l few)
+counts-list h x few = counted (λ l. h.means x l few)
 
 pub counts-branches : {m : List ℕ} {i levels : ℕ} {r : Sized} → BranchesDo m i levels r → (x : core.Brs) → nest_b x ≤ levels
     → Counts m (brs_cells x) (size_b x) r.size i r.at
-counts-branches h x few = counted (λ l. h.1 x l few)
+counts-branches h x few = counted (λ l. h.means x l few)
 
 pub counts-groups : {m : List ℕ} {i levels : ℕ} {r : Sized} → GroupsDo m i levels r → (x : core.Grps) → nest_g x ≤ levels
     → Counts m (grps_cells x) (size_g x) r.size i r.at
-counts-groups h x few = counted (λ l. h.1 x l few)
+counts-groups h x few = counted (λ l. h.means x l few)
 
 -- what lies behind a part lies where it ends
 pub counts_behind : {m a : List ℕ} {x x' i j : ℕ} (w : List ℕ) → Counts m a x x' i j → Lies m i (a ++ w) → Lies m j w

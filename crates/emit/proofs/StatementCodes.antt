@@ -8,7 +8,7 @@ use lib.ListN.{drop}
 use Rattle.rules.specs.Kinds.{CASE, EXIT, FOR, IF, REPEAT, WHILE, ASSIGN}
 use Rattle.rules.specs.Core.{Stmt, assign, if, case, for, while, repeat, exit}
 use Rattle.rules.specs.Cells.{cell}
-use Rattle.rules.specs.Codes.{TICK, STORE, enc, enc_all}
+use Rattle.rules.specs.Codes.{TICK, enc, enc_all}
 use Rattle.rules.specs.Translation.{size_s, size_e, size_b, size_g, code_s}
 use Rattle.rules.specs.CoreCells.{stmt_cells}
 use Rattle.theorems.specs.Fields.{FitS}
@@ -83,45 +83,45 @@ module _ {m code code₁ : L.List ℕ} {p : Place} {head : Cell} {next ticked : 
   pub assign-code : {code₂ code₃ : L.List ℕ} {value : Place} {around : Around} {done : ℕ} → head.tag ≡ ASSIGN → HeldDone m code₁ code₂ (record { at = next; code = ticked }) value
       → Writes code₂ code₃ value.code (4 ∷ (head.datum % 256) ∷ []) done → StatementDone around m code code₃ p (record { at = value.at; code = done })
   unfolding stmt_cells code_s cell head_of Arm
-  assign-code {code₃ = code₃} {value} {around} {done} t w store = (
-    onward m _ _ _ (past_cell m p.at after) w.0,
-    behind_head (of_head head (Behind m code₁ code₃ p next ticked around (record { at = value.at; code = done })) ASSIGN t (λ i a h f g e.
+  assign-code {code₃ = code₃} {value} {around} {done} t w store = record {
+    fine = onward m _ _ _ (past_cell m p.at after) w.fine;
+    means = behind_head (of_head head (Behind m code₁ code₃ p next ticked around (record { at = value.at; code = done })) ASSIGN t (λ i a h f g e.
         rest_if (assign i a) p.code around.exit around.fors refl e (λ lies room.
-        ends (held_on 0 a _ f.1 w.1 (λ e₁ lies₁.
-        wrote_put m (put_store i f.0 (rw (ap (λ (c : Cell). c.datum) h) at store))))))),
-  )
+        ends (held_on 0 a _ f.1 w.means (λ e₁ lies₁.
+        wrote_put m (put_store i f.0 (rw (ap (λ (c : Cell). c.datum) h) at store)))))));
+  }
 
   -- EXIT: a jump to where it leads
   pub exit-code : {code₂ : L.List ℕ} {around : Around} {done : ℕ} → head.tag ≡ EXIT
       → Writes code₁ code₂ ticked (21 ∷ (around.exit % 256) ∷ (around.exit / 256 % 256) ∷ []) done → StatementDone around m code code₂ p (record { at = next; code = done })
   unfolding stmt_cells code_s cell head_of Arm
-  exit-code {code₂} {around} {done} t leap = (
-    past_cell m p.at after,
-    behind_head (of_head head (Behind m code₁ code₂ p next ticked around (record { at = next; code = done })) EXIT t (λ h f g e.
+  exit-code {code₂} {around} {done} t leap = record {
+    fine = past_cell m p.at after;
+    means = behind_head (of_head head (Behind m code₁ code₂ p next ticked around (record { at = next; code = done })) EXIT t (λ h f g e.
         rest_if exit p.code around.exit around.fors refl e (λ lies room.
-        wrote_put m (jump_to around.exit refl g.exit leap)))),
-  )
+        wrote_put m (jump_to around.exit refl g.exit leap))));
+  }
 
   -- one with lists: its lists are a level deeper
   pub compound-code : {code₂ : L.List ℕ} {r : Place} {around : Around} {levels : ℕ} → (head.tag ≡ ASSIGN → ⊥) → (head.tag ≡ EXIT → ⊥) → (around.levels ≡ 0 → ⊥) → levels ≡ around.levels - 1
       → CompoundDone head p.code (record { exit = around.exit; fors = around.fors; levels = levels }) m code₁ code₂ (record { at = next; code = ticked }) r
       → StatementDone around m code code₂ p r
-  compound-code {code₂} {around} a q z d w = (
-    onward m _ _ _ (past_cell m p.at after) w.0,
-    behind_head (λ x h f g e.
+  compound-code {code₂} {around} a q z d w = record {
+    fine = onward m _ _ _ (past_cell m p.at after) w.fine;
+    means = behind_head (λ x h f g e.
         let t : head.tag ≡ head_s x = ap (λ (c : Cell). c.tag) h ∙ tag-apart x in
-        w.1 x h (nested x (λ k. a (t ∙ k)) (λ k. q (t ∙ k))) f (omega arith) e),
-  )
+        w.means x h (nested x (λ k. a (t ∙ k)) (λ k. q (t ∙ k))) f (omega arith) e);
+  }
 
   -- none where no level is left
   pub deep-code : {around : Around} → (head.tag ≡ ASSIGN → ⊥) → (head.tag ≡ EXIT → ⊥) → around.levels ≡ 0 → StatementDone around m code code₁ p (record { at = next; code = ticked })
-  deep-code {around} a q z = (
-    past_cell m p.at after,
-    behind_head (λ x h f g e.
+  deep-code {around} a q z = record {
+    fine = past_cell m p.at after;
+    means = behind_head (λ x h f g e.
         let t : head.tag ≡ head_s x = ap (λ (c : Cell). c.tag) h ∙ tag-apart x in
         let n = nested x (λ k. a (t ∙ k)) (λ k. q (t ∙ k)) in
-        absurd (omega arith)),
-  )
+        absurd (omega arith));
+  }
 
 -- behind the first cell and the TICK of a statement with lists
 
@@ -133,45 +133,45 @@ module _ (start : ℕ) {m code code' : L.List ℕ} {p r : Place} {head : Cell} {
   pub if_code : {size : Sized} {end : ℕ} → head.tag ≡ IF → BranchesDo m p.at around.levels size → end ≡ sum p.code size.size
       → BranchesDone end around m code code' p r → CompoundDone head start around m code code' p r
   unfolding stmt_cells code_s cell size_s levels_s Arm
-  if_code t size end w = (
-    w.0,
-    of_head head (Lists start around m code code' p r) IF t (λ b h n f g e. rest_if (if b) start around.exit around.fors refl e (λ lies room.
-        let s = size_exact _ (size_b b) (size.1 b lies (omega arith)) (omega arith) in
+  if_code t size end w = record {
+    fine = w.fine;
+    means = of_head head (Lists start around m code code' p r) IF t (λ b h n f g e. rest_if (if b) start around.exit around.fors refl e (λ lies room.
+        let s = size_exact _ (size_b b) (size.means b lies (omega arith)) (omega arith) in
         let u = sum-exact _ _ end (omega arith) (omega arith) in
-        rw (← e) (w.1 b f (omega arith) (omega arith)))),
-  )
+        rw (← e) (w.means b f (omega arith) (omega arith))));
+  }
 
   -- CASE: the selector, and its groups
   pub case-code : {code₁ : L.List ℕ} {selector : Place} {size : Sized} {end : ℕ} → head.tag ≡ CASE → HeldDone m code code₁ p selector → GroupsDo m selector.at around.levels size
       → end ≡ sum selector.code size.size → GroupsDone end around m code₁ code' selector r → CompoundDone head start around m code code' p r
   unfolding stmt_cells code_s cell size_s levels_s Arm
-  case-code {selector} {end} t v size is w = (
-    onward m _ _ _ v.0 w.0,
-    of_head head (Lists start around m code code' p r) CASE t (λ a x h n f g e. rest_if (case a x) start around.exit around.fors refl e (λ lies room.
-        held_on 0 a _ f.0 v.1 (λ e₁ lies₁.
-        let s = size_exact _ (size_g x) (size.1 x lies₁ (omega arith)) (omega arith) in
+  case-code {selector} {end} t v size is w = record {
+    fine = onward m _ _ _ v.fine w.fine;
+    means = of_head head (Lists start around m code code' p r) CASE t (λ a x h n f g e. rest_if (case a x) start around.exit around.fors refl e (λ lies room.
+        held_on 0 a _ f.0 v.means (λ e₁ lies₁.
+        let s = size_exact _ (size_g x) (size.means x lies₁ (omega arith)) (omega arith) in
         let u = sum-exact _ _ is (omega arith) (omega arith) in
         let from : start + 1 + size_e a ≡ selector.code = omega arith in
         let to : selector.code + size_g x ≡ end = omega arith in
-        rw (from, to) (w.1 x f.1 (omega arith) (omega arith))))),
-  )
+        rw (from, to) (w.means x f.1 (omega arith) (omega arith)))));
+  }
 
   -- loops
-  pub for_arm : head.tag ≡ FOR → Moves m p.at r.at × ForCode head.datum around m code code' p r → CompoundDone head start around m code code' p r
+  pub for_arm : head.tag ≡ FOR → record { fine : Moves m p.at r.at; means : ForCode head.datum around m code code' p r } → CompoundDone head start around m code code' p r
   unfolding Arm head_of
-  for_arm t w = (w.0, of_head head (Lists start around m code code' p r) FOR t (λ v a e s l h n. rw (ap (λ (c : Cell). c.datum) h) at (w.1 start a e s l)))
+  for_arm t w = record { fine = w.fine; means = of_head head (Lists start around m code code' p r) FOR t (λ v a e s l h n. rw (ap (λ (c : Cell). c.datum) h) at (w.means start a e s l)) }
 
-  pub while_arm : head.tag ≡ WHILE → Moves m p.at r.at × WhileCode start around m code code' p r → CompoundDone head start around m code code' p r
+  pub while_arm : head.tag ≡ WHILE → record { fine : Moves m p.at r.at; means : WhileCode start around m code code' p r } → CompoundDone head start around m code code' p r
   unfolding Arm
-  while_arm t w = (w.0, of_head head (Lists start around m code code' p r) WHILE t (λ c l h n. w.1 c l))
+  while_arm t w = record { fine = w.fine; means = of_head head (Lists start around m code code' p r) WHILE t (λ c l h n. w.means c l) }
 
-  pub repeat-arm : (head.tag ≡ IF → ⊥) → (head.tag ≡ CASE → ⊥) → (head.tag ≡ FOR → ⊥) → (head.tag ≡ WHILE → ⊥) → Moves m p.at r.at × RepeatCode start around m code code' p r
+  pub repeat-arm : (head.tag ≡ IF → ⊥) → (head.tag ≡ CASE → ⊥) → (head.tag ≡ FOR → ⊥) → (head.tag ≡ WHILE → ⊥) → record { fine : Moves m p.at r.at; means : RepeatCode start around m code code' p r }
       → CompoundDone head start around m code code' p r
   unfolding Arm
-  repeat-arm a b c d w = (
-    w.0,
-    λ x h n.
+  repeat-arm a b c d w = record {
+    fine = w.fine;
+    means = λ x h n.
         let t : head.tag ≡ head_s x = ap (λ (c : Cell). c.tag) h ∙ tag-apart x in
         let u = t ∙ repeats x n (λ k. a (t ∙ k)) (λ k. b (t ∙ k)) (λ k. c (t ∙ k)) (λ k. d (t ∙ k)) in
-        of_head head (Lists start around m code code' p r) REPEAT u (λ l c h n. w.1 l c) x h n,
-  )
+        of_head head (Lists start around m code code' p r) REPEAT u (λ l c h n. w.means l c) x h n;
+  }

@@ -1,15 +1,13 @@
 -- Parts of the core program and their code, one behind the other: one law for each kind of step. Assumes nothing.
 use mathlib.Core.Path.{◌≡◌, refl, sym, ap, ◌∙◌, subst}
-use mathlib.Core.Bool.{true, ◌&&◌}
-use mathlib.Core.List.{List, [], ◌∷◌, ◌++◌}
+use mathlib.Core.Bool.{true}
+use mathlib.Core.List.{List, [], ◌++◌}
 use Prim.Native.Nat.{ℕ, ◌+◌, ◌≤◌}
 use native.Mathlib.Nat.{add-zero}
 use native.Mathlib.Omega.{arith}
-use lib.Dec.{leb}
 use lib.ListN.{length, length-append}
 use lib.Seq.{sets, length-sets}
 use borrow.Author.Tests.{le-leb}
-use Rattle.rules.specs.Base.{pick}
 use Rattle.rules.specs.Cells.{cell}
 use Rattle.cells.specs.Reading.{behind, Lies}
 use Rattle.cells.specs.Laws.{lies_first, lies_rest, behind_cell}

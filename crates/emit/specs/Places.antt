@@ -1,5 +1,5 @@
 -- What the functions that write code promise: past these cells of the core program, these bytes are put behind the code that was written, where there is room.
-use Rattle.std.specs.Prelude.{◌≡◌, Bool, ◌&&◌, [], ◌∷◌, ℕ, ◌+◌, ◌≤◌, ◌<◌, leb, length}
+use Rattle.std.specs.Prelude.{◌≡◌, Bool, ◌&&◌, [], ℕ, ◌+◌, ◌≤◌, leb, length}
 use mathlib.Core.List as L
 use Rattle.std.proofs.lemmas.List.Edits.{sets}
 use Rattle.rules.specs.Base.{pick}
@@ -10,8 +10,7 @@ use Rattle.rules.specs.CoreCells.{held_cells, span_cells, stmt_cells, body_cells
 use Rattle.theorems.specs.Fields.{FitE, FitLb, FitS, FitL, FitB, FitG}
 use Rattle.theorems.specs.Levels.{fors_s, fors_l, fors_b, fors_g, nest_s, nest_l, nest_b, nest_g}
 use Rattle.cells.specs.Reading.{Lies}
-use Rattle.writing.specs.Puts.{fits, put_at}
-use Rattle.cells.specs.declared.Cell.{Cell}
+use Rattle.writing.specs.Puts.{fits}
 use Rattle.emit.specs.declared.expressions.Place.{Place}
 use Rattle.emit.specs.declared.statements.Around.{Around}
 

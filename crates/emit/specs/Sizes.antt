@@ -1,8 +1,8 @@
 -- What the functions that read sizes promise of the cells that lie before them. Sizes are not counted beyond 100000, where 8192 is the most.
-use Rattle.std.specs.Prelude.{◌≡◌, Bool, ◌||◌, ℕ, suc, ◌+◌, ◌-◌, ◌≤◌, min, eqb, length}
+use Rattle.std.specs.Prelude.{◌≡◌, ◌||◌, ℕ, suc, ◌+◌, ◌≤◌, min, eqb, length}
 use mathlib.Core.List as L
 use Rattle.rules.specs.Base.{pick}
-use Rattle.rules.specs.Kinds.{NAME, INT, TRUE, FALSE, OPEN, COMMA, COLON, END_IF}
+use Rattle.rules.specs.Kinds.{NAME, INT, TRUE, FALSE, END_IF}
 use Rattle.rules.specs.Core.{Expr, Labels, Stmt, List, Brs, Grps}
 use Rattle.rules.specs.Translation.{size_e, size_lb, size_s, size_l, size_b, size_g}
 use Rattle.rules.specs.Cells.{UNARY, BINARY}

@@ -1,6 +1,5 @@
 -- The core program that the walk leaves of a text, and its figures. Assumes nothing.
-use mathlib.Core.Path.{◌≡◌, refl, sym, ap, ◌∙◌}
-use mathlib.Core.Bool.{true}
+use mathlib.Core.Path.{◌≡◌, refl, ap, ◌∙◌}
 use mathlib.Core.List.{List, ◌++◌, append_assoc}
 use Prim.Native.Nat.{ℕ, ◌+◌, ◌≤◌}
 use native.Mathlib.Omega.{arith}
@@ -8,7 +7,7 @@ use lib.ListN.{length, drop, take, replicate, length-replicate}
 use lib.Seq.{sets, sets-eq, length-sets, length-take-le, drop_at}
 use borrow.Author.Tests.{leb-true}
 use Rattle.rules.specs.Limits.{memory_numbers, token_numbers, tree_numbers, nesting_limit}
-use Rattle.rules.specs.Base.{Res, ok, refuse, ◌>>=◌, need}
+use Rattle.rules.specs.Base.{Res, ok, refuse, need}
 use Rattle.rules.specs.Core.{Program}
 use Rattle.rules.specs.Depth.{depth_l}
 use Rattle.rules.specs.Worst.{worst_l, figure}

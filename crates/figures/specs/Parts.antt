@@ -1,14 +1,12 @@
 -- What the functions that read the core program's figures promise of the cells that lie before them.
-use Rattle.std.specs.Prelude.{◌≡◌, Bool, true, false, ◌||◌, ℕ, suc, ◌+◌, ◌-◌, ◌≤◌, ◌<◌, eqb, ℤ, pos, neg_ℤ, length}
+use Rattle.std.specs.Prelude.{◌≡◌, Bool, true, false, ℕ, suc, ◌+◌, ◌≤◌, ℤ, pos, neg_ℤ, length}
 use mathlib.Core.List as L
 use Rattle.rules.specs.Base.{pick, Res, ok, refuse}
-use Rattle.rules.specs.Bytes.{to_u, of_u}
-use Rattle.rules.specs.Kinds.{NAME, INT, TRUE, FALSE, OPEN, COMMA, COLON}
+use Rattle.rules.specs.Bytes.{of_u}
 use Rattle.rules.specs.Limits.{token_numbers, tree_numbers}
-use Rattle.rules.specs.Core.{Expr, Labels, Stmt, List, Brs, Grps, Variable, Program, assign, if, case, for, while, repeat, exit}
+use Rattle.rules.specs.Core.{Expr, Labels, Stmt, List, Brs, Grps, Variable, Program, for}
 use Rattle.rules.specs.Depth.{height, depth_s, depth_l, depth_b, depth_g}
 use Rattle.rules.specs.Worst.{Bound, Lit, lit, nolit, lit_of, for_w, worst_s, worst_l, worst_b, worst_g}
-use Rattle.rules.specs.Cells.{UNARY, BINARY}
 use Rattle.rules.specs.CoreCells.{held_cells, span_cells, stmt_cells, body_cells, brs_cells, grps_cells, variable_cells, program_cells}
 use Rattle.theorems.specs.Fields.{FitE, FitS, FitL, FitB, FitG}
 use Rattle.theorems.specs.Levels.{nest_s, nest_l, nest_b, nest_g}

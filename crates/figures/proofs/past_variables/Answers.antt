@@ -1,4 +1,3 @@
-use Prim.Native.Nat.{◌-◌}
 use native.Mathlib.Omega.{arith}
 use Rattle.figures.proofs.Moving.{past, room}
 use Rattle.figures.proofs.Skipping.{turn, closing}

@@ -1,6 +1,6 @@
 use mathlib.Core.Path.{◌≡◌, refl, sym, ap, ◌∙◌}
 use mathlib.Core.Bool.{Bool}
-use Prim.Native.Nat.{ℕ, ◌+◌, ◌-◌}
+use Prim.Native.Nat.{ℕ, ◌+◌}
 use native.Mathlib.Omega.{arith}
 use Rattle.rules.specs.Depth.{height}
 use Rattle.rules.specs.Cells.{WHOLE}
@@ -30,7 +30,7 @@ loop-cell-preserved c =
     let l = c.loop-cell in
     let on = tested c.tag_at.ensures c.is_item.ensures c.loop-cell-test.true in
     let less = loop_moves is_item _ l.q.at c.behind.result refl on c.behind.ensures in
-    (omega (arith, less, l.invariant.0), c.item.auto.0 ∙ l.invariant.1, loop_turns c.cell_at-cell.ensures on c.item.ensures l.invariant.2 c.behind.ensures)
+    (omega (arith, less, l.invariant.0), c.item.auto.code ∙ l.invariant.1, loop_turns c.cell_at-cell.ensures on c.item.ensures l.invariant.2 c.behind.ensures)
 
 pub returns : goal.returns
 unfolding held_cells is_item

@@ -1,3 +1,5 @@
+use native.Mathlib.Omega.{arith}
+use borrow.Author.Rules.{rules}
 use Rattle.emit.proofs.ItemPuts.{item-value, item-slot, item-binary, item-unary, item-plus, item-none}
 use Rattle.emit.proofs.expressions.item.Goals as goal
 
@@ -17,4 +19,4 @@ pub returns-else-datum-eq0 : goal.returns-else-datum-eq0
 returns-else-datum-eq0 c = item-unary _ _ c.in-53.is c.if-datum-eq0.false c.alone-else-datum-eq0.ensures
 
 pub returns-in_default : goal.returns-in_default
-returns-in_default c = let m = c.in_default.in_default-own.rest in item-none _ _ _ _ m.0.0.0.1 m.0.0.1 m.0.1 m.1
+returns-in_default c = item-none _ _ _ _ (search rules) (λ e. omega arith) (λ e. omega arith) (λ e. omega arith)

@@ -1,5 +1,4 @@
 use mathlib.Core.Path.{refl, sym, ◌∙◌}
-use Prim.Native.Nat.{◌-◌}
 use native.Mathlib.Omega.{arith}
 use borrow.Author.Tests.{eq-eqb, ne_eqb}
 use Rattle.rules.specs.Kinds.{COMMA, COLON}
@@ -22,7 +21,7 @@ loop-label-preserved c =
     let on = eq-eqb _ COMMA (sym c.tag_at.ensures ∙ c.loop-label-test.true) in
     let less = loop_moves is_comma _ l.q.at c.behind.result refl on c.behind.ensures in (
       omega (arith, less, l.invariant.0),
-      c.jump.auto.0 ∙ c.span-tested.auto.0 ∙ l.invariant.1,
+      c.jump.auto.code ∙ c.span-tested.auto.code ∙ l.invariant.1,
       loop_turns c.cell_at-label.ensures on (label_put _ _ c.span-tested.ensures c.jump.ensures) l.invariant.2 c.behind.ensures,
     )
 

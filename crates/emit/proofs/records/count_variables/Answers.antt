@@ -1,4 +1,3 @@
-use Prim.Native.Nat.{◌-◌}
 use native.Mathlib.Omega.{arith}
 use Rattle.emit.proofs.SizeSums.{past_cell, fewer}
 use Rattle.emit.proofs.VariableCells.{count-starts, counts_one, counts-few, counts_all}

@@ -1,6 +1,6 @@
 use mathlib.Core.Path.{refl, ◌∙◌}
-use Prim.Native.Nat.{◌-◌}
 use native.Mathlib.Omega.{arith}
+use mir.Syntax.{w32}
 use mir.Facts.{to_z-of_z}
 use borrow.Author.Rules.{sfits_of}
 use Rattle.emit.proofs.SizeSums.{past_cell, fewer}
@@ -19,9 +19,9 @@ loop-variable-smaller-then-offset-lt1000 c = fewer _ _ _ c.tag_at.ensures c.loop
 pub loop-variable-preserved-then-offset-lt1000 : goal.loop-variable-preserved-then-offset-lt1000
 loop-variable-preserved-then-offset-lt1000 c =
     let l = c.loop-variable in (
-      c.put_variable.auto.0 ∙ l.invariant.0,
+      c.put_variable.auto.buffer ∙ l.invariant.0,
       λ vs d y room.
-          writes_one c.tag_at.ensures c.loop-variable-test.true c.cell_at-variable.ensures (to_z-of_z (sfits_of c.signed.type_inv) ∙ c.signed.ensures) refl c.put_variable.ensures.1 c.behind-at.ensures
+          writes_one c.tag_at.ensures c.loop-variable-test.true c.cell_at-variable.ensures (to_z-of_z {w = w32} (sfits_of c.signed.type_inv) ∙ c.signed.ensures) refl c.put_variable.ensures.1 c.behind-at.ensures
           l.invariant.0
           room
           (l.invariant.1 vs d y room),
@@ -33,7 +33,7 @@ loop-variable-smaller c = fewer _ _ _ c.tag_at.ensures c.loop-variable-test.true
 pub loop-variable-preserved : goal.loop-variable-preserved
 loop-variable-preserved c =
     let l = c.loop-variable in
-    (c.put_variable.auto.0 ∙ l.invariant.0, λ vs d y room. absurd (writes-few d c.if-offset-lt1000.false (l.invariant.1 vs d y room)))
+    (c.put_variable.auto.buffer ∙ l.invariant.0, λ vs d y room. absurd (writes-few d c.if-offset-lt1000.false (l.invariant.1 vs d y room)))
 
 pub returns : goal.returns
 returns c = let l = c.loop-variable in λ vs d y room. writes_all c.tag_at.ensures c.loop-variable-test.false (l.invariant.1 vs d y room)

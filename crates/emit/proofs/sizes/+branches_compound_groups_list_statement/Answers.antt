@@ -1,4 +1,3 @@
-use Prim.Native.Nat.{◌-◌}
 use native.Mathlib.Omega.{arith}
 use Rattle.emit.proofs.SizeSums.{fewer}
 use Rattle.emit.proofs.SizeLists.{list_start, list-turn, list_done, branches_start, branch-moves, branches-turn, branches_else, branches_done, groups_start, label-ahead, group-moves, groups-turn, groups_done}
@@ -50,8 +49,8 @@ compound-returns-in-33 t c =
 
 pub compound-returns-in_default : goal.compound-returns-in_default
 compound-returns-in_default t c =
-    repeat-does c.tag_at.ensures c.in_default.in_default-own.rest.0.0.0.1 c.in_default.in_default-own.rest.0.0.1 c.in_default.in_default-own.rest.0.1
-    c.in_default.in_default-own.rest.1 c.behind-next.ensures
+    repeat-does c.tag_at.ensures (λ e. omega arith) (λ e. omega arith) (λ e. omega arith)
+    (λ e. omega arith) c.behind-next.ensures
     c.list-body-in_default.ensures c.held-condition-in_default.ensures c.plus-in_default.ensures c.plus-in_default-2.ensures
 
 pub groups-loop-tests-init : goal.groups-loop-tests-init
@@ -86,7 +85,7 @@ pub list-returns : goal.list-returns
 list-returns t c = list_done c.loop-one.invariant c.tag_at.ensures c.loop-one-test.false c.behind.ensures
 
 pub statement-returns-then-levels-eq0 : goal.statement-returns-then-levels-eq0
-statement-returns-then-levels-eq0 t c = none_left c.tag_at.ensures c.in_default.in_default-own.rest.0.1 c.in_default.in_default-own.rest.1 c.if-levels-eq0.true c.behind-next.ensures
+statement-returns-then-levels-eq0 t c = none_left c.tag_at.ensures (λ e. omega arith) (λ e. omega arith) c.if-levels-eq0.true c.behind-next.ensures
 
 pub statement-returns-in-35 : goal.statement-returns-in-35
 statement-returns-in-35 t c = assign-does c.tag_at.ensures c.in-35.is c.behind-next.ensures c.held-value.ensures c.plus.ensures
@@ -95,4 +94,4 @@ pub statement-returns-in-18 : goal.statement-returns-in-18
 statement-returns-in-18 t c = exit-does c.tag_at.ensures c.in-18.is c.behind-next.ensures
 
 pub statement-returns-else-levels-eq0 : goal.statement-returns-else-levels-eq0
-statement-returns-else-levels-eq0 t c = compound-does c.tag_at.ensures c.in_default.in_default-own.rest.0.1 c.in_default.in_default-own.rest.1 (omega arith) c.compound.ensures
+statement-returns-else-levels-eq0 t c = compound-does c.tag_at.ensures (λ e. omega arith) (λ e. omega arith) (omega arith) c.compound.ensures

@@ -5,19 +5,19 @@ use Rattle.emit.proofs.SizeLists.{ListLoop, BranchesLoop, GroupsLoop}
 use Rattle.emit.proofs.sizes.+branches_compound_groups_list_statement.Given as goal
 
 abbrev pub decreases-branches : goal.decreases-branches
-decreases-branches l = 4 * l.p + 2
+decreases-branches l = 4 * l.levels + 2
 
 abbrev pub decreases-compound : goal.decreases-compound
-decreases-compound l = 4 * l.head + 3
+decreases-compound l = 4 * l.levels + 3
 
 abbrev pub decreases-groups : goal.decreases-groups
-decreases-groups l = 4 * l.p + 2
+decreases-groups l = 4 * l.levels + 2
 
 abbrev pub decreases-list : goal.decreases-list
-decreases-list l = 4 * l.p + 1
+decreases-list l = 4 * l.levels + 1
 
 abbrev pub decreases-statement : goal.decreases-statement
-decreases-statement l = 4 * l.p
+decreases-statement l = 4 * l.levels
 
 abbrev pub invariant-branches-loop-condition : goal.invariant-branches-loop-condition
 invariant-branches-loop-condition l = BranchesLoop l.memory l.levels l.at l.s

@@ -1,4 +1,3 @@
-use Prim.Native.Nat.{◌-◌}
 use Rattle.emit.proofs.SizeSums.{past_cell, fewer}
 use Rattle.emit.proofs.SizeItems.{held_start, held_turn, held_done, item-ahead}
 use Rattle.emit.proofs.sizes.held.Goals as goal

@@ -2,7 +2,9 @@ use mathlib.Core.Path.{◌≡◌}
 use mathlib.Core.List.{[], ◌∷◌}
 use mathlib.Core.Logic.{inl, inr}
 use Prim.Native.Nat.{ℕ}
+use native.Mathlib.Omega.{arith}
 use borrow.Author.Tests.{ne_eqb}
+use borrow.Author.Rules.{rules}
 use types.Run.{OneOf}
 use Rattle.rules.specs.Kinds.{NAME, INT, TRUE, FALSE}
 use Rattle.rules.specs.Cells.{UNARY, BINARY}
@@ -49,4 +51,4 @@ unfolding item_size
 returns-else-datum-eq0 c = rw (c.in-53.is, ne_eqb _ 0 c.if-datum-eq0.false)
 
 pub returns-in_default : goal.returns-in_default
-returns-in_default c = silent _ _ c.in_default.in_default-own.rest.0.0.0.1 c.in_default.in_default-own.rest.0.0.1 c.in_default.in_default-own.rest.0.1 c.in_default.in_default-own.rest.1
+returns-in_default c = silent _ _ (search rules) (λ e. omega arith) (λ e. omega arith) (λ e. omega arith)

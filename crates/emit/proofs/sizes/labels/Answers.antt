@@ -1,4 +1,3 @@
-use Prim.Native.Nat.{◌-◌}
 use native.Mathlib.Omega.{arith}
 use Rattle.emit.proofs.SizeSums.{past_cell, fewer}
 use Rattle.emit.proofs.SizeItems.{labels_start, labels-turn, labels_done}

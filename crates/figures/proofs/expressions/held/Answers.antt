@@ -1,6 +1,5 @@
 use mathlib.Core.Path.{ap, sym, ◌∙◌}
 use mathlib.Core.Bool.{true≢false}
-use Prim.Native.Nat.{◌-◌}
 use native.Mathlib.Omega.{arith}
 use Rattle.figures.proofs.Moving.{past, room}
 use Rattle.figures.proofs.Skipping.{turn, closing}
@@ -19,16 +18,18 @@ loop-i-smaller c =
     )
 
 pub loop-i-preserved : goal.loop-i-preserved
-loop-i-preserved c =
-    (
-      omega (arith, past _ _ c.behind-i.ensures),
-      λ more e y. turn c.tag_at.ensures c.behind-i.ensures whole_is_no_item
-          (sym c.is_item.ensures ∙ c.loop-i-test.true) (c.loop-i.invariant.1 more e y),
-    )
+loop-i-preserved c = (
+  omega (arith, past _ _ c.behind-i.ensures),
+  λ more e y. turn c.tag_at.ensures c.behind-i.ensures whole_is_no_item
+      (sym c.is_item.ensures ∙ c.loop-i-test.true) (c.loop-i.invariant.1 more e y),
+)
 
 pub returns : goal.returns
 returns c =
-    record { fine = omega (arith, past _ _ c.behind.ensures); means = λ more e y.
+    record {
+      fine = omega (arith, past _ _ c.behind.ensures);
+      means = λ more e y.
           let z = closing c.tag_at.ensures c.behind.ensures
           (λ h. true≢false (sym h ∙ sym c.is_item.ensures ∙ c.loop-i-test.false)) (c.loop-i.invariant.1 more e y) in
-          (z.0, ap (λ x. x.datum) c.cell_at-end.ensures ∙ z.1) }
+          (z.0, ap (λ x. x.datum) c.cell_at-end.ensures ∙ z.1);
+    }

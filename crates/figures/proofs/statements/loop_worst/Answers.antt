@@ -1,3 +1,4 @@
+use native.Mathlib.Omega.{arith}
 use borrow.Author.Tests.{not-true, not-false}
 use Rattle.rules.specs.Worst.{for_w}
 use Rattle.ticks.specs.Bounds.{cut}
@@ -16,4 +17,4 @@ returns-then-not-last c = rw (not-false c.args.first.known c.if-not-first.false,
 pub returns : goal.returns
 returns c =
     known_loop _ _ _ _ (not-false _ c.if-not-first.false) (not-false _ c.if-not-last.false)
-    c.struct_told-1.given.1.0.1 c.struct_told-2-1.given.1.0.1 c.signed.type_inv c.signed.ensures c.looped.ensures
+    (omega arith) (omega arith) c.signed.type_inv c.signed.ensures c.looped.ensures
