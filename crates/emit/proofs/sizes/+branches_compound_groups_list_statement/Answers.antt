@@ -4,6 +4,8 @@ use Rattle.emit.proofs.SizeLists.{list_start, list-turn, list_done, branches_sta
 use Rattle.emit.proofs.SizeStatements.{assign-does, exit-does, none_left, compound-does, if_does, case-does, for_does, while_does, repeat-does}
 use Rattle.emit.proofs.sizes.+branches_compound_groups_list_statement.Goals as goal
 
+-- IF's branches
+
 pub branches-loop-condition-init : goal.branches-loop-condition-init
 branches-loop-condition-init t c = branches_start _ _ _
 
@@ -27,6 +29,8 @@ pub branches-returns : goal.branches-returns
 branches-returns t c =
     branches_done c.loop-condition.invariant c.tag_at.ensures c.loop-condition-test.false c.tag_at-2.ensures c.if-tag_at-eq-ELSE.false
     c.behind-2.ensures
+
+-- IF, CASE and loops
 
 pub compound-returns-in-21 : goal.compound-returns-in-21
 compound-returns-in-21 t c = if_does c.tag_at.ensures c.in-21.is c.behind-next.ensures c.branches-b.ensures c.plus.ensures
@@ -53,6 +57,8 @@ compound-returns-in_default t c =
     (λ e. omega arith) c.behind-next.ensures
     c.list-body-in_default.ensures c.held-condition-in_default.ensures c.plus-in_default.ensures c.plus-in_default-2.ensures
 
+-- CASE's groups
+
 pub groups-loop-tests-init : goal.groups-loop-tests-init
 groups-loop-tests-init t c = groups_start _ _ _
 
@@ -72,6 +78,8 @@ groups-returns t c =
     groups_done c.loop-tests.invariant c.tag_at.ensures c.is_label.ensures c.loop-tests-test.false c.list-other.ensures
     c.plus-2.ensures c.plus-3.ensures
 
+-- A list
+
 pub list-loop-one-init : goal.list-loop-one-init
 list-loop-one-init t c = list_start _ _ _
 
@@ -83,6 +91,8 @@ list-loop-one-preserved t c = list-turn c.loop-one.invariant c.tag_at.ensures c.
 
 pub list-returns : goal.list-returns
 list-returns t c = list_done c.loop-one.invariant c.tag_at.ensures c.loop-one-test.false c.behind.ensures
+
+-- A statement
 
 pub statement-returns-then-levels-eq0 : goal.statement-returns-then-levels-eq0
 statement-returns-then-levels-eq0 t c = none_left c.tag_at.ensures (λ e. omega arith) (λ e. omega arith) c.if-levels-eq0.true c.behind-next.ensures

@@ -6,6 +6,8 @@ use Rattle.emit.proofs.StatementCodes.{assign-code, exit-code, compound-code, de
 use Rattle.emit.proofs.CodeTurns.{turned_none, turned_on, turned_done, list-turn, list_last, leapt-jump, leapt-none, branch_less, branch-turn, else_last, none_last, group_less, group-turn, other_last}
 use Rattle.emit.proofs.statements.+branches_compound_for_loop_groups_list_repeat_loop_statement_while_loop.Goals as goal
 
+-- IF's branches and ELSE
+
 pub branches-loop-q-init : goal.branches-loop-q-init
 branches-loop-q-init t c = (refl, turned_none _ _)
 
@@ -35,6 +37,8 @@ branches-returns-then-tag_at-eq-ELSE t c = turned_done c.loop-q.invariant.1 (els
 pub branches-returns : goal.branches-returns
 branches-returns t c = turned_done c.loop-q.invariant.1 (none_last c.tag_at.ensures c.loop-q-test.false c.tag_at-2.ensures c.if-tag_at-eq-ELSE.false c.behind-2.ensures)
 
+-- IF, CASE and loops
+
 pub compound-returns-in-21 : goal.compound-returns-in-21
 compound-returns-in-21 t c = if_code _ c.in-21.is c.branches-size.ensures c.sum.ensures c.branches.ensures
 
@@ -51,10 +55,14 @@ pub compound-returns-in_default : goal.compound-returns-in_default
 compound-returns-in_default t c =
     repeat-arm _ (λ e. omega arith) (λ e. omega arith) (λ e. omega arith) (λ e. omega arith) c.repeat_loop.ensures
 
+-- FOR
+
 pub for_loop-returns : goal.for_loop-returns
 for_loop-returns t c =
     for_code _ c.held-initial.ensures c.held-last.ensures c.cell_at-by.ensures c.behind-next.ensures c.list-size.ensures c.sum-top.ensures c.sum.ensures c.sum-end.ensures
     c.with_slot-kept.ensures c.with_slot-stored.ensures c.turn-tested.ensures c.alone.ensures c.sum-2.ensures c.list-body.ensures c.turn.ensures
+
+-- CASE's groups and ELSE
 
 pub groups-loop-tests-init : goal.groups-loop-tests-init
 groups-loop-tests-init t c = (refl, turned_none _ _)
@@ -72,6 +80,8 @@ groups-loop-tests-preserved t c = (
 pub groups-returns : goal.groups-returns
 groups-returns t c = turned_done c.loop-tests.invariant.1 (other_last c.tag_at.ensures c.is_label.ensures c.loop-tests-test.false c.alone-2.ensures c.list.ensures)
 
+-- A list of statements
+
 pub list-loop-around-init : goal.list-loop-around-init
 list-loop-around-init t c = (refl, turned_none _ _)
 
@@ -84,8 +94,12 @@ list-loop-around-preserved t c = (c.statement-q.auto.code ∙ c.loop-around.inva
 pub list-returns : goal.list-returns
 list-returns t c = turned_done c.loop-around.invariant.1 (list_last c.tag_at.ensures c.loop-around-test.false c.behind.ensures)
 
+-- REPEAT
+
 pub repeat_loop-returns : goal.repeat_loop-returns
 repeat_loop-returns t c = repeat-code _ c.list-size.ensures c.held-test.ensures c.sum.ensures c.sum-2.ensures c.sum-3.ensures c.list-body.ensures c.held-condition.ensures c.jump.ensures
+
+-- A statement
 
 pub statement-returns-then-around-eq0 : goal.statement-returns-then-around-eq0
 statement-returns-then-around-eq0 t c = deep-code c.cell_at-head.ensures c.behind.ensures c.alone.ensures (λ e. omega arith) (λ e. omega arith) c.if-around-eq0.true
@@ -98,6 +112,8 @@ statement-returns-in-18 t c = exit-code c.cell_at-head.ensures c.behind.ensures 
 
 pub statement-returns-else-around-eq0 : goal.statement-returns-else-around-eq0
 statement-returns-else-around-eq0 t c = compound-code c.cell_at-head.ensures c.behind.ensures c.alone.ensures (λ e. omega arith) (λ e. omega arith) c.if-around-eq0.false refl c.compound.ensures
+
+-- WHILE
 
 pub while_loop-returns : goal.while_loop-returns
 while_loop-returns t c = while_code _ c.held-condition.ensures c.list-size.ensures c.sum.ensures c.sum-end.ensures c.jump.ensures c.list-body.ensures c.jump-2.ensures

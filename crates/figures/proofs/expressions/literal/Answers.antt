@@ -3,6 +3,8 @@ use Rattle.figures.specs.Parts.{lit_in}
 use Rattle.figures.proofs.Literals.{looks_as, none_read, alone-read, signed-read}
 use Rattle.figures.proofs.expressions.literal.Goals as goal
 
+-- In each case the first two cells are read, and where the third one lies is known.
+
 pub returns-then-integer-ne-INT : goal.returns-then-integer-ne-INT
 unfolding lit_in
 returns-then-integer-ne-INT c = λ more e y f. none_read (looks_as more e c.cell_at-integer.ensures c.behind-second.ensures c.cell_at-sign.ensures c.behind-third.ensures refl y f) (λ i. absurd (c.if-integer-ne-INT.true i)) (λ i. absurd (c.if-integer-ne-INT.true i))

@@ -6,6 +6,8 @@ use Rattle.figures.proofs.EachKind.{nested, only_repeat, assign_is, exit_is, if_
 use Rattle.figures.proofs.Loops.{list_start, list-turn, list_done, branches_start, branches-turn, branches_last, branches_done, groups_start, groups-turn, groups_done}
 use Rattle.figures.proofs.statements.+branches_compound_for_loop_groups_list_statement.Goals as goal
 
+-- IF's branches, and ELSE
+
 pub branches-loop-condition-init : goal.branches-loop-condition-init
 branches-loop-condition-init t c = (omega arith, branches_start)
 
@@ -37,6 +39,8 @@ branches-returns t c =
       means = branches_done c.tag_at-2.ensures c.loop-condition.invariant.1
           (λ e. c.loop-condition-test.false (c.tag_at.ensures ∙ sym c.tag_at-2.ensures ∙ e)) c.if-tag_at-eq-ELSE.false c.behind-2.ensures;
     }
+
+-- IF, CASE and loops
 
 pub compound-returns-in-21 : goal.compound-returns-in-21
 compound-returns-in-21 t c =
@@ -73,6 +77,8 @@ compound-returns-in_default t c =
           (only_repeat (tagged_as c.tag_at.ensures refl x y) o (λ e. omega arith) (λ e. omega arith) (λ e. omega arith) (λ e. omega arith)) c.list-body-in_default.ensures.means c.held-condition-in_default.ensures.means c.deeper-in_default.ensures y n i;
     }
 
+-- FOR
+
 pub for_loop-returns : goal.for_loop-returns
 for_loop-returns t c =
     record {
@@ -82,6 +88,8 @@ for_loop-returns t c =
           c.literal.ensures c.literal-2.ensures c.loop_worst.ensures c.deeper.ensures
           c.deeper-2.ensures;
     }
+
+-- CASE's groups, and the last list
 
 pub groups-loop-body-init : goal.groups-loop-body-init
 groups-loop-body-init t c = (omega arith, groups_start)
@@ -106,6 +114,8 @@ groups-returns t c =
           c.list.ensures.means c.beside.ensures;
     }
 
+-- Lists
+
 pub list-loop-f-init : goal.list-loop-f-init
 list-loop-f-init t c = (omega arith, list_start)
 
@@ -120,6 +130,8 @@ list-loop-f-preserved t c = (
 
 pub list-returns : goal.list-returns
 list-returns t c = record { fine = behind_loop c.loop-f.invariant.0 (past _ _ c.behind.ensures); means = list_done c.tag_at.ensures c.loop-f.invariant.1 c.loop-f-test.false c.behind.ensures }
+
+-- A statement: one level of nesting fewer is left within a compound one
 
 pub statement-returns-then-levels-eq0 : goal.statement-returns-then-levels-eq0
 statement-returns-then-levels-eq0 t c = record { fine = past _ _ c.behind-next.ensures; means = λ x y n i. absurd (omega (arith, nested (tagged_as c.tag_at.ensures refl x y) (λ e. omega arith) (λ e. omega arith))) }
