@@ -4,7 +4,7 @@ use Rattle.std.specs.Prelude.{◌≢◌, ℕ, ◌+◌, ◌≤◌, ◌<◌}
 use Rattle.std.proofs.Math.Path.{◌≡◌}
 use native.Mathlib.Omega.{arith}
 use Rattle.rules.specs.Numbers.{Ty}
-use Rattle.rules.specs.Core.{List, case}
+use Rattle.rules.specs.Core.{List}
 use Rattle.rules.specs.Meaning.{Table, Stop, ill, Out, go, left, halt, exec_l, ans_of, meaning}
 use Rattle.rules.specs.Machine.{Ran, view, run, start, code_in}
 use Rattle.rules.specs.Translation.{size_l, code_of}

@@ -4,7 +4,7 @@ use Rattle.std.specs.Prelude.{◌≡◌, refl, Bool, true, false, [], ◌∷◌,
 use Rattle.std.proofs.Common.{sym, ap, ◌∙◌, arith, drop_of_length-le, drop-drop}
 use Rattle.std.specs.Int.Signed.{mag}
 use Rattle.rules.specs.Numbers.{Ty}
-use Rattle.rules.specs.Core.{Neg, Not, Mul, Div, Mod, Add, Sub, Lt, Gt, Le, Ge, Eq, Ne, And, Xor, Or, List}
+use Rattle.rules.specs.Core.{Neg, Not, Mul, Div, Mod, Add, Sub, Lt, Gt, Le, Ge, Eq, Ne, And, Xor, Or}
 use Rattle.rules.specs.Codes.{Instr, TICK, CONST, LOAD, STORE, UN, BIN, JUMP, JZ, JNZ, SPAN, DROP, HOLD, FIRST, NEXT, HALT, BAD, length_of, get2, get4, decode, enc, decode_op, enc_all, readers, un_code, bin_code, get1}
 use Rattle.rules.specs.Machine.{code_in}
 use Rattle.theorems.specs.Expressions.{At}

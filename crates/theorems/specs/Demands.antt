@@ -16,7 +16,7 @@ use Rattle.rules.specs.Meaning.{Table, fit, binop, passes, exec, loop_w, loop_r,
 use Rattle.rules.specs.Worst.{pass_count}
 use Rattle.rules.specs.Image.{image, Loaded, image_in}
 use Rattle.rules.specs.Run.{run_loaded, run_image, valid_for}
-use Rattle.rules.specs.Compile.{accepted, refused, compiled, answer, compile}
+use Rattle.rules.specs.Compile.{accepted, refused, compiled, compile}
 use Rattle.rules.specs.Evaluate.{Told, told_by, evaluate}
 use Rattle.theorems.specs.Remainder.{remainder}
 use Rattle.theorems.specs.TicksFall.{exec_l-le}

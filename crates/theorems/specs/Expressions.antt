@@ -4,8 +4,8 @@ use Rattle.std.specs.Prelude.{◌≡◌, [], ◌∷◌, ℕ, ◌+◌, ◌≤◌,
 use Rattle.std.proofs.Math.Path.{refl, ap, subst}
 use Rattle.std.proofs.Common.{◌∙◌}
 use native.Mathlib.Omega.{arith}
-use Rattle.rules.specs.Core.{Expr, num, flag, var, un, bin, pls, par, List}
-use Rattle.rules.specs.Meaning.{Table, Stop, done, spent, range, divide, ill, Ev, val, stop, unop, binop, load, bind_e, eval, Ans, ans, go}
+use Rattle.rules.specs.Core.{Expr, num, flag, var, un, bin, pls, par}
+use Rattle.rules.specs.Meaning.{Table, Stop, done, spent, range, divide, ill, Ev, val, stop, unop, binop, load, bind_e, eval, Ans, ans}
 use Rattle.rules.specs.Numbers.{of_bool}
 use Rattle.rules.specs.Codes.{Instr, CONST, LOAD, UN, BIN, length_of}
 use Rattle.rules.specs.Machine.{State, state, on, end, bump, view, push_e, Code, push, push_r, act, step, finish, run}

@@ -1,13 +1,12 @@
 -- Instructions completed: at most (ticks + 1) times the bytes, for any code at all.
 use Rattle.std.proofs.Math.Path.{◌≡◌, refl}
 use Rattle.std.proofs.Common.{subst}
-use Rattle.std.specs.Prelude.{Bool, ◌&&◌ as and}
+use Rattle.std.specs.Prelude.{Bool}
 use Rattle.std.proofs.Math.Bool.{true, false}
 use Prim.Native.Nat.{ℕ, zero, suc, ◌+◌, ◌-◌, ◌*◌, ◌≤◌, ◌<◌}
 use native.Mathlib.Omega.{arith}
 use Rattle.std.proofs.Math.Dec.{ltb}
-use Rattle.rules.specs.Core.{for}
-use Rattle.rules.specs.Meaning.{Stop, done, spent, range, divide, ill, left, tick}
+use Rattle.rules.specs.Meaning.{Stop, done, spent, range, divide, ill}
 use Rattle.rules.specs.Machine.{State, state, Step, on, tk, end, Ran, bump, Code, step, finish, adv, run, seg}
 use Rattle.theorems.specs.Running.{pc_of, Enough, far, at_tick, enough-zero, enough-suc, seg_eq, all}
 use Rattle.theorems.specs.Tests.{ltb-t, ltb-f}

@@ -1,6 +1,6 @@
 -- What proofs use of `run`: one law for each step. The fuel is never seen again.
 use mathlib.Core.List as L
-use Rattle.std.specs.Prelude.{◌≡◌, Bool, ◌&&◌ as and, ◌||◌ as or, ℤ, pos, ◌+ℤ◌, length, get_or, set}
+use Rattle.std.specs.Prelude.{◌≡◌, Bool, ◌||◌ as or, ℤ, pos, ◌+ℤ◌, length, get_or, set}
 use Rattle.std.proofs.Math.Path.{refl}
 use Rattle.std.proofs.Common.{ap, arith}
 use Rattle.std.proofs.Math.Bool.{true, false}

@@ -1,13 +1,12 @@
 -- The stack limit does not matter where it is not met; the measure of a run; the bounds as they are stated.
 use mathlib.Core.List as L
-use Rattle.std.specs.Prelude.{◌≢◌, Bool, not, ℤ, pos, length, get_or}
+use Rattle.std.specs.Prelude.{◌≢◌, Bool, ℤ, pos, length, get_or}
 use Rattle.std.proofs.Math.Path.{◌≡◌, refl, ap}
 use Rattle.std.proofs.Common.{sym, ◌∙◌, arith}
 use Rattle.std.proofs.Math.Bool.{true, false}
 use mathlib.Core.List.{[], ◌∷◌}
 use Prim.Native.Nat.{ℕ, zero, suc, ◌+◌, ◌-◌, ◌*◌, ◌≤◌, ◌<◌}
 use Rattle.std.proofs.Math.Dec.{ltb}
-use Rattle.rules.specs.Core.{List, for}
 use Rattle.rules.specs.Meaning.{Table, Stop, done, spent, range, divide, ill, Ev, val, stop, load, load_d}
 use Rattle.rules.specs.Codes.{Instr, TICK, CONST, LOAD, STORE, UN, BIN, JUMP, JZ, JNZ, SPAN, DROP, HOLD, FIRST, NEXT, HALT, BAD}
 use Rattle.rules.specs.Machine.{State, state, Step, on, tk, end, Ran, bump, is_tick, Code, ok_jump, jump_to, push, push_r, first_on, next_on, act, step, finish, adv, run, seg}

@@ -11,8 +11,7 @@ pub returns-then-b-eq0 : goal.returns-then-b-eq0
 returns-then-b-eq0 c = by_zero _ _ (zero_bits c.ranges.b c.if-b-eq0.true)
 
 pub nonzero_div-wide : goal.nonzero_div-wide
-nonzero_div-wide c =
-    (
+nonzero_div-wide c = (
   not_zero c.wide-2.ensures.1 c.ranges.b c.wide-2.ensures.0 c.if-b-eq0.false,
   quot_fits _ _ (wide_fits c.wide.ensures.1) (wide_fits c.wide-2.ensures.1),
 )
