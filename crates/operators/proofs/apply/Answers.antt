@@ -43,7 +43,7 @@ returns-in-Ne c = arm c.in-Ne.is c.ranges.x c.ranges.y (rw c.same-in-Ne.ensures 
 
 pub returns-in-And : goal.returns-in-And
 unfolding binop
-returns-in-And c = arm c.in-And.is c.ranges.x c.ranges.y (rw c.both_true.ensures at c.logic.ensures)
+returns-in-And c = arm c.in-And.is c.ranges.x c.ranges.y (cc)
 
 pub returns-in-Xor : goal.returns-in-Xor
 unfolding binop
@@ -51,4 +51,4 @@ returns-in-Xor c = arm c.in-Xor.is c.ranges.x c.ranges.y (rw c.same-in-Xor.ensur
 
 pub returns-in-Or : goal.returns-in-Or
 unfolding binop
-returns-in-Or c = arm c.in-Or.is c.ranges.x c.ranges.y (rw c.one_true.ensures at c.logic-in-Or.ensures)
+returns-in-Or c = arm c.in-Or.is c.ranges.x c.ranges.y (cc)
