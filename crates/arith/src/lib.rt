@@ -1,83 +1,71 @@
-// Exact arithmetic on signed 32-bit numbers: an operator's value, or the stop.
+// Exact arithmetic on signed 32-bit numbers: an operator's value, or why it has none.
 #![tactic(auto)]
 
 ghost use Rattle.std.specs.Prelude.{◌≡◌};
 ghost use Rattle.std.specs.Int.{w32};
 ghost use Rattle.std.proofs.Common.{SFits};
 ghost use Rattle.rules.specs.Core.{Neg, Mul, Div, Mod, Add, Sub};
-ghost use Rattle.rules.specs.Meaning.{fit, unop, binop};
-ghost use Rattle.rules.specs.Numbers.{dint};
+ghost use Rattle.rules.specs.Meaning.{unop, binop};
 ghost use Rattle.arith.specs.Exact.{ev_of};
 
-// What an operator answers.
-#[derive(Drop)]
-pub enum Answer {
-    Value(i32),
+// Why an operator has no value.
+#[derive(Clone, Copy, PartialEq, Eq)]
+pub enum Trap {
+    // The exact result is no number of 32 bits.
     Range,
+    // The divisor is 0.
     Divide,
+    // The operator is none of truth values, and an operand is another number.
     Bad,
 }
 
-// The exact number z as an i32, or Range.
-fn narrow(z: i64) -> Answer
-    ensures { ev_of result ≡ fit dint z }
-{
-    if z < -2147483648 {
-        return Answer::Range;
-    }
-    if 2147483647 < z {
-        return Answer::Range;
-    }
-    Answer::Value(z as i32)
-}
-
-pub fn add(a: i32, b: i32) -> Answer
+pub fn add(a: i32, b: i32) -> Result<i32, Trap>
     ensures { ev_of result ≡ binop Add a b }
 {
-    narrow(wide(a) + wide(b))
+    a.checked_add(b).ok_or(Trap::Range)
 }
 
-pub fn sub(a: i32, b: i32) -> Answer
+pub fn sub(a: i32, b: i32) -> Result<i32, Trap>
     ensures { ev_of result ≡ binop Sub a b }
 {
-    narrow(wide(a) - wide(b))
+    a.checked_sub(b).ok_or(Trap::Range)
 }
 
-pub fn mul(a: i32, b: i32) -> Answer
+pub fn mul(a: i32, b: i32) -> Result<i32, Trap>
     ensures { ev_of result ≡ binop Mul a b }
 {
-    narrow(wide(a) * wide(b))
+    a.checked_mul(b).ok_or(Trap::Range)
 }
 
-pub fn neg(a: i32) -> Answer
+pub fn neg(a: i32) -> Result<i32, Trap>
     ensures { ev_of result ≡ unop Neg a }
 {
-    sub(0, a)
+    a.checked_neg().ok_or(Trap::Range)
+}
+
+// The quotient, truncated toward zero.
+pub fn div(a: i32, b: i32) -> Result<i32, Trap>
+    ensures { ev_of result ≡ binop Div a b }
+{
+    if b == 0 {
+        return Err(Trap::Divide);
+    }
+    a.checked_div(b).ok_or(Trap::Range)
+}
+
+// The remainder. It is always a number of 32 bits, also where the quotient is none.
+pub fn rem(a: i32, b: i32) -> Result<i32, Trap>
+    ensures { ev_of result ≡ binop Mod a b }
+{
+    if b == 0 {
+        return Err(Trap::Divide);
+    }
+    Ok(a.wrapping_rem(b))
 }
 
 // The same number, in 64 bits: still a number of 32.
 pub fn wide(x: i32) -> i64
     ensures { (result ≡ x) × (SFits w32 result) }
 {
-    x as i64
-}
-
-// The quotient, truncated toward zero.
-pub fn div(a: i32, b: i32) -> Answer
-    ensures { ev_of result ≡ binop Div a b }
-{
-    if b == 0 {
-        return Answer::Divide;
-    }
-    narrow(wide(a) / wide(b))
-}
-
-// The remainder.
-pub fn rem(a: i32, b: i32) -> Answer
-    ensures { ev_of result ≡ binop Mod a b }
-{
-    if b == 0 {
-        return Answer::Divide;
-    }
-    narrow(wide(a) % wide(b))
+    i64::from(x)
 }

@@ -1,9 +1,24 @@
 -- What lies in lent numbers, taken apart. Assumes nothing.
-use Rattle.std.specs.Prelude.{◌≡◌, refl, Bool, true, false, List, [], ◌∷◌, ◌++◌, ℕ, ◌+◌, ◌-◌, ◌≤◌, leb, length, get_or, drop}
+use Rattle.std.specs.Prelude.{◌≡◌, refl, Bool, true, false, List, [], ◌∷◌, ◌++◌, ℕ, ◌+◌, ◌-◌, ◌≤◌, ◌<◌, leb, length, get_or, drop}
 use Rattle.std.proofs.Common.{sym, ap, ◌∙◌, append_assoc, add-zero, arith, length-append, length-drop, get_or-drop, drop-drop, le-leb, leb-true}
+use Rattle.std.proofs.lemmas.Bool.{lt-leb}
 use Rattle.rules.specs.Base.{pick}
 use Rattle.rules.specs.Cells.{cell}
 use Rattle.cells.specs.Reading.{cell_in, behind, Lies}
+
+-- what the code finds ahead of a place
+
+pub cell_none : (m : List ℕ) (i : ℕ) → length m < i + 3 → cell_in m i ≡ record { tag = 0; place = 0; datum = 0 }
+unfolding cell_in
+cell_none m i h = rw (lt-leb (i + 3) (length m) h)
+
+pub behind_some : (m : List ℕ) (i : ℕ) → i + 3 ≤ length m → behind m i ≡ i + 3
+unfolding behind
+behind_some m i h = rw (le-leb (i + 3) (length m) h)
+
+pub behind_none : (m : List ℕ) (i : ℕ) → length m < i + 3 → behind m i ≡ length m
+unfolding behind
+behind_none m i h = rw (lt-leb (i + 3) (length m) h)
 
 drop_front : (xs ys : List ℕ) → drop (length xs) (xs ++ ys) ≡ ys
 drop_front [] ys = refl

@@ -1,4 +1,3 @@
 -- The laws that belong to no one function.
 pub mod Bytes
-pub mod Keys
 pub mod Table

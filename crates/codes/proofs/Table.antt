@@ -1,13 +1,18 @@
 -- The table of operand lengths against the readers of the rules, by one walk of both lists. Assumes nothing.
 use mathlib.Core.Path.{◌≡◌, refl}
+use mathlib.Core.Bool.{Bool, true, false}
 use mathlib.Core.List.{List, [], ◌∷◌}
 use Prim.Native.Nat.{ℕ, zero, suc, max, ◌+◌, ◌≤◌, ◌<◌, zero-le}
 use native.Mathlib.Nat.{le-max_left, le-max_right, le_trans}
 use native.Mathlib.Omega.{arith}
-use lib.ListN.{get_or, length, drop, length-drop}
+use lib.Dec.{leb}
+use lib.ListN.{get_or, length, drop, length-drop, drop_of_length-le}
 use lib.IntN.{ℤ}
+use borrow.Author.Tests.{leb-true, leb-false}
 use Rattle.rules.specs.Codes.{Instr, BAD, length_of, get1, get2, get4, readers, decode_op, decode}
-use Rattle.codes.specs.Table.{lengths}
+use Rattle.codes.specs.Table.{lengths, instr_of}
+use Rattle.codes.specs.declared.Instruction.{Instruction}
+use Rattle.codes.specs.declared.Instruction.TheVariants.{Tick, Const, Load, Store, Unary, Binary, Jump, JumpZero, JumpNot, Span, Drop, Hold, First, Next, Halt}
 use Rattle.codes.proofs.Bytes.{decode_at}
 
 -- ---- no code has more than 8 operand bytes
@@ -108,3 +113,30 @@ pub within : (code : List ℕ) (at : ℕ) → at < length code → at + length_o
 within code at h =
     rw (decode_at code at h)
     (elim (made (get_or code at 0) (drop (at + 1) code)) [ bad e ↦ rw e (omega arith) | whole k e ↦ omega (arith, length-drop (at + 1) code) ])
+
+-- ---- what an instruction is
+never_bad : (i : Instruction) → instr_of i ≡ BAD → ⊥
+never_bad Tick e = cc
+never_bad (Const v) e = cc
+never_bad (Load slot) e = cc
+never_bad (Store slot) e = cc
+never_bad (Unary o) e = cc
+never_bad (Binary o) e = cc
+never_bad (Jump to) e = cc
+never_bad (JumpZero to) e = cc
+never_bad (JumpNot to) e = cc
+never_bad (Span low high) e = cc
+never_bad Drop e = cc
+never_bad (Hold level) e = cc
+never_bad (First l) e = cc
+never_bad (Next l) e = cc
+never_bad Halt e = cc
+
+-- it stands within the code
+pub there : (code : List ℕ) (at : ℕ) (i : Instruction) → instr_of i ≡ decode (drop at code) → at < length code
+unfolding decode
+there code at i e = by (leb (length code) at) refl
+  where
+    by : (t : Bool) → leb (length code) at ≡ t → at < length code
+    by true h = absurd (never_bad i (rw (drop_of_length-le code (leb-true (length code) at h)) at e))
+    by false h = leb-false (length code) at h

@@ -1,5 +1,5 @@
 -- The table of operand lengths, and what the code's instructions stand for in the rules.
-use Rattle.std.specs.Prelude.{List, [], ◌∷◌, ℕ, ◌+◌, ℤ, get_or}
+use Rattle.std.specs.Prelude.{List, [], ◌∷◌, ℕ, ◌+◌, ℤ, get_or, Option, None, Some}
 use Rattle.rules.specs.Bytes.{of2, of4}
 use Rattle.rules.specs.Core as Core
 use Rattle.rules.specs.Codes.{Instr, TICK, CONST, LOAD, STORE, UN, BIN, JUMP, JZ, JNZ, SPAN, DROP, HOLD, FIRST, NEXT, HALT, BAD}
@@ -8,7 +8,7 @@ use Rattle.codes.specs.declared.Prefix.TheVariants.{Neg, Not}
 use Rattle.codes.specs.declared.Operator.{Operator}
 use Rattle.codes.specs.declared.Operator.TheVariants.{Mul, Div, Mod, Add, Sub, Lt, Gt, Le, Ge, Eq, Ne, And, Xor, Or}
 use Rattle.codes.specs.declared.Instruction.{Instruction}
-use Rattle.codes.specs.declared.Instruction.TheVariants.{Bad, Tick, Const, Load, Store, Unary, Binary, Jump, JumpZero, JumpNot, Span, Drop, Hold, First, Next, Halt}
+use Rattle.codes.specs.declared.Instruction.TheVariants.{Tick, Const, Load, Store, Unary, Binary, Jump, JumpZero, JumpNot, Span, Drop, Hold, First, Next, Halt}
 
 -- how many operand bytes follow each code, 0 to 29
 abbrev pub lengths : List ℕ
@@ -45,7 +45,6 @@ bin_of Or = Core.Or
 
 -- the instructions of the rules
 abbrev pub instr_of : Instruction → Instr
-instr_of Bad = BAD
 instr_of Tick = TICK
 instr_of (Const v) = CONST v
 instr_of (Load slot) = LOAD slot
@@ -61,3 +60,8 @@ instr_of (Hold level) = HOLD level
 instr_of (First l) = FIRST l.level l.slot l.step l.to
 instr_of (Next l) = NEXT l.level l.slot l.step l.to
 instr_of Halt = HALT
+
+-- what stands in the code: an instruction, or none
+abbrev pub decoded : Option Instruction → Instr
+decoded None = BAD
+decoded (Some i) = instr_of i

@@ -3,17 +3,17 @@
 
 ghost use Rattle.std.specs.Prelude.{List, ◌≡◌, ℕ, ◌+◌, ◌≤◌, ◌<◌, length, get_or, drop};
 ghost use Rattle.rules.specs.Codes.{BIN, decode_op, decode};
-ghost use Rattle.codes.specs.Table.{lengths, word_at, value_at, bin_of, instr_of};
+ghost use Rattle.codes.specs.Table.{lengths, word_at, value_at, bin_of, decoded};
 
 // The operators before an operand.
-#[derive(Drop)]
+#[derive(Clone, Copy)]
 pub enum Prefix {
     Neg,
     Not,
 }
 
 // The operators between operands.
-#[derive(Drop)]
+#[derive(Clone, Copy)]
 pub enum Operator {
     Mul,
     Div,
@@ -32,7 +32,7 @@ pub enum Operator {
 }
 
 // The operands of FIRST and NEXT.
-#[derive(Drop)]
+#[derive(Clone, Copy)]
 pub struct Loop {
     pub level: usize,
     pub slot: usize,
@@ -40,9 +40,8 @@ pub struct Loop {
     pub to: usize,
 }
 
-#[derive(Drop)]
+#[derive(Clone, Copy)]
 pub enum Instruction {
-    Bad,
     Tick,
     Const(i32),
     Load(usize),
@@ -65,18 +64,14 @@ const LENGTHS: [u8; 30] = [
     0, 0, 4, 1, 1, 0, 0, 0, 0, 0, 0, 0, 0, 0, 0, 0, 0, 0, 0, 0, 0, 2, 2, 8, 2, 0, 1, 8, 8, 0,
 ];
 
-fn wide(x: u8) -> usize
-    ensures { (result ≡ x) × (result < 256) }
-{
-    x as usize
-}
-
 // How many operand bytes follow a code: none after an unknown one.
 pub fn operands(code: u8) -> usize
     ensures { (result ≡ get_or lengths code 0) × (result ≤ 8) }
 {
-    let n = wide(code);
-    if n < 30 { wide(LENGTHS[n]) } else { 0 }
+    match LENGTHS.get(usize::from(code)) {
+        Some(n) => usize::from(*n),
+        None => 0,
+    }
 }
 
 fn word(s: &[u8], at: usize) -> usize
@@ -93,19 +88,20 @@ fn value(s: &[u8], at: usize) -> i32
     octets::value_of(s[at], s[at + 1], s[at + 2], s[at + 3])
 }
 
-fn counted(s: &[u8], at: usize) -> Loop
-    requires { at + 8 ≤ length s.now }
-    ensures { (result.level ≡ get_or s.now at 0) × ((result.slot ≡ get_or s.now (at + 1) 0) × ((result.step ≡ value_at s.now (at + 2)) × (result.to ≡ word_at s.now (at + 6)))) }
+fn counted(s: &[u8]) -> Loop
+    requires { 8 ≤ length s.now }
+    ensures { (result.level ≡ get_or s.now 0 0) × (result.slot ≡ get_or s.now 1 0) × (result.step ≡ value_at s.now 2) × (result.to ≡ word_at s.now 6) }
 {
     Loop {
-        level: wide(s[at]),
-        slot: wide(s[at + 1]),
-        step: value(s, at + 2),
-        to: word(s, at + 6),
+        level: usize::from(s[0]),
+        slot: usize::from(s[1]),
+        step: value(s, 2),
+        to: word(s, 6),
     }
 }
 
-// The operator of a code from 7 to 20.
+// The operator of a code from 7 to 20. A TryFrom would have to refuse codes that `read` never hands on.
+#[tactic(auto, unfolding(rules::specs::Codes::decode_op, rules::specs::Codes::readers))]
 fn operator_of(code: u8) -> Operator
     requires { (6 < code) × (code < 21) }
     ensures { (operands : List ℕ) → BIN (bin_of result) ≡ decode_op code operands }
@@ -128,44 +124,41 @@ fn operator_of(code: u8) -> Operator
     }
 }
 
-// The instruction of a code whose operands stand at `at`, all of them.
-fn read(s: &[u8], at: usize, code: u8) -> Instruction
-    requires { at + get_or lengths code 0 ≤ length s.now }
-    ensures { instr_of result ≡ decode_op code (drop at s.now) }
+// The instruction of a code and its operands, all of them.
+#[tactic(auto, unfolding(rules::specs::Codes::decode_op, rules::specs::Codes::readers))]
+fn read(code: u8, s: &[u8]) -> Option<Instruction>
+    requires { get_or lengths code 0 ≤ length s.now }
+    ensures { decoded result ≡ decode_op code s.now }
 {
-    match code {
+    Some(match code {
         1 => Instruction::Tick,
-        2 => Instruction::Const(value(s, at)),
-        3 => Instruction::Load(wide(s[at])),
-        4 => Instruction::Store(wide(s[at])),
+        2 => Instruction::Const(value(s, 0)),
+        3 => Instruction::Load(usize::from(s[0])),
+        4 => Instruction::Store(usize::from(s[0])),
         5 => Instruction::Unary(Prefix::Neg),
         6 => Instruction::Unary(Prefix::Not),
         7..=20 => Instruction::Binary(operator_of(code)),
-        21 => Instruction::Jump(word(s, at)),
-        22 => Instruction::JumpZero(word(s, at)),
-        23 => Instruction::Span(value(s, at), value(s, at + 4)),
-        24 => Instruction::JumpNot(word(s, at)),
+        21 => Instruction::Jump(word(s, 0)),
+        22 => Instruction::JumpZero(word(s, 0)),
+        23 => Instruction::Span(value(s, 0), value(s, 4)),
+        24 => Instruction::JumpNot(word(s, 0)),
         25 => Instruction::Drop,
-        26 => Instruction::Hold(wide(s[at])),
-        27 => Instruction::First(counted(s, at)),
-        28 => Instruction::Next(counted(s, at)),
+        26 => Instruction::Hold(usize::from(s[0])),
+        27 => Instruction::First(counted(s)),
+        28 => Instruction::Next(counted(s)),
         29 => Instruction::Halt,
-        _ => Instruction::Bad,
-    }
+        _ => return None,
+    })
 }
 
-// What stands at an offset: a bad code where it is unknown, its operands are cut off, or nothing is there.
-pub fn decode(code: &[u8], at: usize) -> Instruction
-    ensures { instr_of result ≡ decode (drop at code.now) }
+// What stands at an offset: nothing where the code is unknown, its operands are cut off, or no byte is there.
+pub fn decode(code: &[u8], at: usize) -> Option<Instruction>
+    ensures { decoded result ≡ decode (drop at code.now) }
 {
-    if code.len() <= at {
-        return Instruction::Bad;
+    let byte = *code.get(at)?;
+    let rest = &code[at + 1..];
+    if rest.len() < operands(byte) {
+        return None;
     }
-    let b = code[at];
-    let n = operands(b);
-    if n <= code.len() - (at + 1) {
-        read(code, at + 1, b)
-    } else {
-        Instruction::Bad
-    }
+    read(byte, rest)
 }

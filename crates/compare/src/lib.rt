@@ -7,8 +7,6 @@ ghost use Rattle.rules.specs.Meaning.{passes};
 ghost use Rattle.rules.specs.Numbers.{between, eq_z, is_zero};
 ghost use Rattle.compare.specs.Advancing.{advance_of};
 
-use arith::wide;
-
 pub fn lt(a: i32, b: i32) -> bool
     ensures { result ≡ lt_z a b }
 {
@@ -25,50 +23,36 @@ pub fn le(a: i32, b: i32) -> bool
 pub fn within(lowest: i32, highest: i32, z: i32) -> bool
     ensures { result ≡ between lowest highest z }
 {
-    if le(lowest, z) { le(z, highest) } else { false }
+    lowest <= z && z <= highest
 }
 
 pub fn same(a: i32, b: i32) -> bool
     ensures { result ≡ eq_z a b }
 {
-    within(a, a, b)
+    a == b
 }
 
 pub fn is_zero(a: i32) -> bool
     ensures { result ≡ is_zero a }
 {
-    same(a, 0)
+    a == 0
 }
 
-// What a FOR's step does to its variable.
-#[derive(Drop)]
-pub enum Advance {
-    Ends,
-    Steps(i32),
-}
-
-fn passes_wide(z: i64, step: i32, last: i32) -> bool
-    ensures { result ≡ passes step z last }
-{
-    if 0 <= step {
-        wide(last) < z
-    } else {
-        z < wide(last)
-    }
-}
-
+// Whether a FOR's variable is past the final value.
 pub fn passes(v: i32, step: i32, last: i32) -> bool
     ensures { result ≡ passes step v last }
 {
-    passes_wide(wide(v), step, last)
+    if 0 <= step { last < v } else { v < last }
 }
 
-pub fn advanced(v: i32, step: i32, last: i32) -> Advance
+// The next value of a FOR's variable, unless that ends the loop. A sum that is no number of 32 bits passes every final value.
+pub fn advanced(v: i32, step: i32, last: i32) -> Option<i32>
     ensures { result ≡ advance_of v step last }
 {
-    let z = wide(v) + wide(step);
-    if passes_wide(z, step, last) {
-        return Advance::Ends;
+    let next = v.checked_add(step)?;
+    if passes(next, step, last) {
+        None
+    } else {
+        Some(next)
     }
-    Advance::Steps(z as i32)
 }

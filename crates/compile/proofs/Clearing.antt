@@ -6,7 +6,8 @@ use Prim.Native.Nat.{ℕ}
 use lib.Dec.{eqb, leb}
 use lib.ListN.{length, replicate, length-replicate}
 use lib.Seq.{sets, length-sets}
-use borrow.Author.Tests.{eq-eqb, ne_eqb}
+use native.Mathlib.Omega.{arith}
+use denote.Enum.Bare.{sameb}
 use Rattle.rules.specs.Limits.{code_limit, token_numbers}
 use Rattle.rules.specs.Base.{pick, Res, ok, refuse, ◌>>=◌, need}
 use Rattle.rules.specs.Core.{Program}
@@ -15,37 +16,63 @@ use Rattle.rules.specs.Image.{image}
 use Rattle.rules.specs.Compile.{Answer, accepted, refused, answer, compile, memory_after}
 use Rattle.rules.specs.Cells.{refused_lent}
 use Rattle.rules.specs.CoreCells.{program_cells, program_for, program_left, walked}
-use Rattle.rules.specs.Answers.{compiled_as}
-use Rattle.rules.specs.declared.Compiled.{Compiled}
-use Rattle.rules.specs.declared.Compiled.TheVariants.{Accepted, Refused}
+use Rattle.std.specs.Prelude.{Result, Ok, Err}
+use Rattle.rules.specs.Answers.{fault_number, answer_of, compiled_as}
+use Rattle.rules.specs.declared.compiling.Fault.{Fault}
+use Rattle.rules.specs.declared.compiling.Fault.TheVariants.{LongText, NoToken, BadName, BadInteger, Unexpected, Redeclared, Unknown, WrongType, ManyVariables, TooDeep, LoopVariable, ExitOutside, LongCode, ShortBuffer, StepZero, LabelOrder, ShortMemory}
+use Rattle.rules.specs.declared.compiling.Refusal.{Refusal}
+use Rattle.rules.specs.declared.compiling.Compiled.{Compiled}
+use Rattle.rules.specs.contracts.compiling.Fault.{the_type}
 use Rattle.compile.specs.Bare.{bare}
 use Rattle.emit.specs.Records.{finished}
 use Rattle.emit.proofs.Emitted.{compiled-finished}
 
 -- Clearing, by the answer
 
+-- the fault of too short a memory is the one of number 17
+is_17 : (f : Fault) → sameb the_type f ShortMemory ≡ eqb (fault_number f) 17
+is_17 LongText = refl
+is_17 NoToken = refl
+is_17 BadName = refl
+is_17 BadInteger = refl
+is_17 Unexpected = refl
+is_17 Redeclared = refl
+is_17 Unknown = refl
+is_17 WrongType = refl
+is_17 ManyVariables = refl
+is_17 TooDeep = refl
+is_17 LoopVariable = refl
+is_17 ExitOutside = refl
+is_17 LongCode = refl
+is_17 ShortBuffer = refl
+is_17 StepZero = refl
+is_17 LabelOrder = refl
+is_17 ShortMemory = refl
+
 -- 17 leaves memory as it is
-pub kept : (a : Compiled) (n p : ℕ) (m : List ℕ) → a ≡ Refused n p → n ≡ 17 → m ≡ memory_after (bare a) m
+pub kept : (a : Result Compiled Refusal) (r : Refusal) (m : List ℕ) → a ≡ Err r → sameb the_type r.fault ShortMemory ≡ true → m ≡ memory_after (bare a) m
 unfolding memory_after
-kept a n p m known e = rw (known, eq-eqb n 17 e)
+kept a r m known same = rw (known, ← is_17 r.fault, same) refl
 
 -- any other number leaves it all zero
-pub cleared : (a : Compiled) (n p : ℕ) (m m' : List ℕ) → a ≡ Refused n p → (n ≡ 17 → ⊥) → m' ≡ replicate (length m) 0 → m' ≡ memory_after (bare a) m
+pub cleared : (a : Result Compiled Refusal) (r : Refusal) (m m' : List ℕ) → a ≡ Err r → sameb the_type r.fault ShortMemory ≡ false → m' ≡ replicate (length m) 0 → m' ≡ memory_after (bare a) m
 unfolding memory_after
-cleared a n p m m' known e did = rw (known, ne_eqb n 17 e) did
+cleared a r m m' known other did = rw (known, ← is_17 r.fault, other) did
 
 -- so does an image
-pub cleared-accepted : (a : Compiled) (i c d w : ℕ) (m m' : List ℕ) → a ≡ Accepted i c d w → m' ≡ replicate (length m) 0 → m' ≡ memory_after (bare a) m
+pub cleared-accepted : (a : Result Compiled Refusal) (c : Compiled) (m m' : List ℕ) → a ≡ Ok c → m' ≡ replicate (length m) 0 → m' ≡ memory_after (bare a) m
 unfolding memory_after
-cleared-accepted a i c d w m m' known did = rw known did
+cleared-accepted a c m m' known did = rw known did
 
 -- Clearing what the walk leaves
 
 -- the image's bytes make no difference to memory
-any_bytes : (a : Answer) (m : List ℕ) → memory_after (bare (compiled_as a)) m ≡ memory_after a m
+any_bytes : (A : Answer) (a : Result Compiled Refusal) (m : List ℕ) → answer_of a ≡ compiled_as A → memory_after (bare a) m ≡ memory_after A m
 unfolding memory_after
-any_bytes (accepted i c d w) m = refl
-any_bytes (refused n p) m = refl
+any_bytes (accepted i c d w) (Ok a) m means = refl
+any_bytes (accepted i c d w) (Err r) m means = let z : ◌≡◌ {A = ℕ} 0 1 = cc in absurd (omega arith)
+any_bytes (refused n p) (Ok a) m means = let z : ◌≡◌ {A = ℕ} 0 1 = cc in absurd (omega arith)
+any_bytes (refused n p) (Err r) m means = let e : fault_number r.fault ≡ n = cc in rw e refl
 
 -- zeros for each of so many zeros are the same zeros
 zeros-again : (n : ℕ) → replicate (length (replicate {A = ℕ} n 0)) 0 ≡ replicate {A = ℕ} n 0
@@ -89,7 +116,7 @@ unfolding compile walked
 cleared-walked text lent capacity = rw (compiled-finished (length lent) capacity text) (cleared_left capacity text lent (program_for (length lent) text))
 
 -- memory ends as compiling leaves it
-pub clears : (text lent m m' : List ℕ) (capacity : ℕ) (a : Compiled) → a ≡ compiled_as (compile (length lent) capacity text) → m ≡ (walked text lent).memory → m' ≡ memory_after (bare a) m
+pub clears : (text lent m m' : List ℕ) (capacity : ℕ) (a : Result Compiled Refusal) → answer_of a ≡ compiled_as (compile (length lent) capacity text) → m ≡ (walked text lent).memory → m' ≡ memory_after (bare a) m
     → m' ≡ memory_after (compile (length lent) capacity text) lent
 clears text lent m m' capacity a means leaves did =
-    did ∙ rw (means, leaves) (any_bytes (compile (length lent) capacity text) (walked text lent).memory ∙ cleared-walked text lent capacity)
+    did ∙ rw leaves (any_bytes (compile (length lent) capacity text) a (walked text lent).memory means ∙ cleared-walked text lent capacity)

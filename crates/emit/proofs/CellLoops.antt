@@ -9,9 +9,9 @@ use lib.Seq.{sets, length-sets}
 use Rattle.rules.specs.Cells.{cell}
 use Rattle.cells.specs.Reading.{cell_in, behind, Lies}
 use Rattle.cells.specs.Laws.{cell_lies, behind_cell, behind_moves, tag_moves}
-use Rattle.cells.specs.declared.Cell.{Cell}
+use Rattle.cells.specs.declared.cell.Cell.{Cell}
 use Rattle.emit.specs.Places.{Put, Wrote}
-use Rattle.emit.specs.declared.expressions.Place.{Place}
+use Rattle.emit.specs.Places.{Place}
 use Rattle.writing.proofs.Buffers.{sets_append}
 use Rattle.emit.proofs.Writing.{wrote_put, wrote_then}
 

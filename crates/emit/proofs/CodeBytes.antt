@@ -12,7 +12,7 @@ use Rattle.rules.specs.Core.{Expr, num, flag, var, un, bin, pls, par, Labels, ln
 use Rattle.rules.specs.Codes.{Instr, TICK, CONST, LOAD, STORE, UN, BIN, JUMP, JZ, JNZ, SPAN, DROP, HOLD, FIRST, NEXT, HALT, BAD, length_of, enc, enc_all}
 use Rattle.rules.specs.Translation.{size_e, code_e, size_lb, code_lb, jlen, jmp, size_s, size_l, size_b, size_g, code_s, code_l, code_b, code_g}
 use Rattle.theorems.specs.Sizes.{len_all, len_s, len_l, len_b, len_g}
-use Rattle.emit.specs.Places.{code_put, behind_put, Put}
+use Rattle.emit.specs.Places.{Put, Writes}
 use Rattle.emit.proofs.Writing.{puts}
 
 -- What follows a part's code stands behind it
@@ -126,12 +126,6 @@ bytes-s x p e n r = ap enc_all (move_s x p e n [] r) ∙ bytes_before (code_s x 
 pub bytes-l : (x : List) (p e n : ℕ) (r : L.List Instr) → enc_all (code_l x p e n r) ≡ enc_all (code_l x p e n []) ++ enc_all r
 bytes-l x p e n r = ap enc_all (move_l x p e n [] r) ∙ bytes_before (code_l x p e n []) r
 
-pub bytes-b : (x : Brs) (p e n : ℕ) (r : L.List Instr) → enc_all (code_b x p e n r) ≡ enc_all (code_b x p e n []) ++ enc_all r
-bytes-b x p e n r = ap enc_all (move_b x p e n [] r) ∙ bytes_before (code_b x p e n []) r
-
-pub bytes-g : (x : Grps) (p z e n : ℕ) (r : L.List Instr) → enc_all (code_g x p z e n r) ≡ enc_all (code_g x p z e n []) ++ enc_all r
-bytes-g x p z e n r = ap enc_all (move_g x p z e n [] r) ∙ bytes_before (code_g x p z e n []) r
-
 -- A part's bytes are as many as its size
 
 pub length_instr : (i : Instr) → length (enc i []) ≡ length_of i
@@ -195,10 +189,6 @@ unfolding len_all
 length-g x p z e n = length-bytes (code_g x p z e n []) ∙ len_g x p z e n [] ∙ add-zero (size_g x)
 
 -- What the functions of `codes` write are an instruction's bytes, if its operands fit their fields
-
--- what such a function promises
-abbrev pub Writes : L.List ℕ → L.List ℕ → ℕ → L.List ℕ → ℕ → Type 0
-Writes code code' at bytes r = (r ≡ behind_put code at bytes) × (code' ≡ code_put code at bytes)
 
 -- a number that fits one byte, and one that fits two
 pub one : (x : ℕ) → x < 256 → x % 256 ≡ x

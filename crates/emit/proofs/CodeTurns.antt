@@ -16,19 +16,19 @@ use Rattle.rules.specs.CoreCells.{span_cells, body_cells, brs_cells, grps_cells}
 use Rattle.theorems.specs.Levels.{levels_l, levels_b, levels_g}
 use Rattle.cells.specs.Reading.{cell_in, behind, is_label, Moves, Lies}
 use Rattle.cells.specs.Laws.{lies_first, lies_rest}
-use Rattle.emit.specs.Sizes.{jump_size}
-use Rattle.emit.specs.Places.{sum, Wrote, ListCode, BranchesCode, GroupsCode}
-use Rattle.emit.specs.declared.expressions.Place.{Place}
-use Rattle.emit.specs.declared.sizes.Sized.{Sized}
+use Rattle.emit.specs.Sizes.{capped, jump_size}
+use Rattle.emit.specs.Places.{ahead, Writes, Wrote, ListCode, BranchesCode, GroupsCode}
+use Rattle.emit.specs.Places.{Place}
+use Rattle.emit.specs.Sizes.{Sized}
 use Rattle.emit.specs.declared.statements.Around.{Around}
 use Rattle.emit.proofs.Writing.{wrote_nothing, wrote_past, wrote_put}
-use Rattle.emit.proofs.CodeBytes.{Writes, bytes-j, length-b, length-g, length-j, put_drop}
+use Rattle.emit.proofs.CodeBytes.{bytes-j, length-b, length-g, length-j, put_drop}
 use Rattle.emit.proofs.CoreHeads.{head_l, head_b, head_g, tag-list, tag-branches, tag-groups, statement_goes_on, label-starts, list-starts}
 use Rattle.emit.proofs.SizeSums.{past_cell, fewer, onward, LabelsDo, ListDoes}
 use Rattle.emit.proofs.SizeLists.{label-ahead, jumps}
 use Rattle.emit.proofs.PartsDone.{HeldDone, LabelsDone, StatementDone, ListDone, BranchesDone, GroupsDone}
 use Rattle.emit.proofs.Following.{wrote_if, wrote_on, instr_on, past_on, held_on, labels_on, statement_on, list_on}
-use Rattle.emit.proofs.Targets.{sum-exact, size_exact, jump_to, jz_to}
+use Rattle.emit.proofs.Targets.{ahead_exact, added_exact, size_exact, jump_to, jz_to}
 
 -- The loops' invariant: turns moved on from p to q, and whatever keeps the promise P from q on keeps it from p on
 pub record Turned (P : L.List ℕ → L.List ℕ → Place → Place → Type 0) (m code code₁ : L.List ℕ) (p q : Place) : Type 0 where
@@ -98,7 +98,7 @@ branch_less m i j k sees t is held list = fewer m i k sees (λ z. omega arith) (
 pub branch-turn : {m code code₁ code₂ code₃ code₄ : L.List ℕ} {q condition body q' : Place} {around : Around} {size : Sized} {end tag next leap one two far tested : ℕ}
     → tag ≡ (cell_in m q.at).tag → tag ≡ THEN → next ≡ behind m q.at → HeldDone m code code₁ (record { at = next; code = q.code }) condition
     → ListDoes m condition.at around.levels size → leap ≡ jump_size (cell_in m size.at).tag
-    → one ≡ sum condition.code 3 → two ≡ sum size.size leap → far ≡ sum one two
+    → one ≡ capped (3 + size.size) → two ≡ capped (one + leap) → far ≡ ahead condition.code two
     → Writes code₁ code₂ condition.code (22 ∷ (far % 256) ∷ (far / 256 % 256) ∷ []) tested
     → ListDone around m code₂ code₃ (record { at = condition.at; code = tested }) body → Leapt m code₃ code₄ end leap body q'
     → Turned (BranchesCode end around m) m code code₄ q q'
@@ -116,9 +116,9 @@ branch-turn {m} {code} {code₄ = code₄} {q} {body} {q'} {around} {end} sees t
         let there = subst (λ i. Lies m i (brs_cells b)) (sym (ap (λ s. s.at) whole)) (lies_rest (body_cells l) (brs_cells b) lies₁) in
         let j = tag ∙ ap jump_size (tag-branches b there) ∙ jumps b in
         let s = size_exact _ (size_l l) whole (omega arith) in
-        let one' = sum-exact _ _ one (omega arith) (omega arith) in
-        let two' = sum-exact _ _ two (omega arith) (omega arith) in
-        let far' = sum-exact _ _ far (omega arith) (omega arith) in
+        let one' = added_exact _ _ one (omega arith) in
+        let two' = added_exact _ _ two (omega arith) in
+        let far' = ahead_exact _ _ far (omega arith) (omega arith) in
         let past = q.code + size_e c + 3 + size_l l + jlen b in
         instr_on (JZ past) _ (jz_to past (omega arith) (omega arith) leap) (λ e₂.
         list_on l (q.code + size_e c + 3) around.exit around.fors _ f.1 (omega arith) list.means (omega arith) refl refl (λ e₃ lies₃.
@@ -154,8 +154,8 @@ pub group_less : (m : L.List ℕ) (i j k : ℕ) {label : Bool} {tag : ℕ} → t
 group_less m i j k sees is t labels list = fewer m i k sees (label-ahead is t) (onward m _ _ _ labels list)
 
 pub group-turn : {m code code₁ code₂ code₃ code₄ code₅ : L.List ℕ} {q tested done : Place} {around : Around} {tests size : Sized} {label : Bool} {end tag one body two far leapt start last : ℕ}
-    → tag ≡ (cell_in m q.at).tag → label ≡ is_label tag → label ≡ true → LabelsDo m q.at tests → one ≡ sum q.code tests.size → body ≡ sum one 3
-    → LabelsDone body m code code₁ q tested → ListDoes m tested.at around.levels size → two ≡ sum size.size 4 → far ≡ sum body two
+    → tag ≡ (cell_in m q.at).tag → label ≡ is_label tag → label ≡ true → LabelsDo m q.at tests → one ≡ capped (tests.size + 3) → body ≡ ahead q.code one
+    → LabelsDone body m code code₁ q tested → ListDoes m tested.at around.levels size → two ≡ capped (size.size + 7) → far ≡ ahead tested.code two
     → Writes code₁ code₂ tested.code (21 ∷ (far % 256) ∷ (far / 256 % 256) ∷ []) leapt → Writes code₂ code₃ leapt (25 ∷ []) start
     → ListDone around m code₃ code₄ (record { at = tested.at; code = start }) done → Writes code₄ code₅ done.code (21 ∷ (end % 256) ∷ (end / 256 % 256) ∷ []) last
     → Turned (GroupsCode end around m) m code code₅ q (record { at = done.at; code = last })
@@ -170,14 +170,14 @@ group-turn {m} {code} {code₅ = code₅} {q} {done = done} {around} {end = end}
     on code' r w (grp ls l x) f g z = wrote_if (λ lies most.
         let room = length-g (grp ls l x) q.code end around.exit around.fors in
         let s = size_exact _ (size_lb ls) (few.means ls (lies_first (span_cells ls) (body_cells l) (lies_first (span_cells ls ++ body_cells l) (grps_cells x) lies))) (omega arith) in
-        let one' = sum-exact _ _ one (omega arith) (omega arith) in
-        let body' = sum-exact _ _ body (omega arith) (omega arith) in
+        let one' = added_exact _ _ one (omega arith) in
+        let body' = ahead_exact _ _ body (omega arith) (omega arith) in
         let b = q.code + size_lb ls + 3 in
         let past = b + 1 + size_l l + 3 in
         simp append_assoc (labels_on ls b _ f.0 labels.means (omega arith) (omega arith) (λ e₁ lies₁.
         let n = size_exact _ (size_l l) (size.means l (lies_first (body_cells l) (grps_cells x) lies₁) (omega arith)) (omega arith) in
-        let two' = sum-exact _ _ two (omega arith) (omega arith) in
-        let far' = sum-exact _ _ far (omega arith) (omega arith) in
+        let two' = added_exact _ _ two (omega arith) in
+        let far' = ahead_exact _ _ far (omega arith) (omega arith) in
         instr_on (JUMP past) _ (jump_to past (omega arith) (omega arith) leap) (λ e₂.
         instr_on DROP _ (put_drop drop) (λ e₃.
         list_on l (b + 1) around.exit around.fors _ f.1 (omega arith) list.means (omega arith) refl refl (λ e₄ lies₄.

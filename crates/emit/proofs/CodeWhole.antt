@@ -7,11 +7,10 @@ use native.Mathlib.Omega.{arith}
 use Rattle.rules.specs.Codes.{HALT, enc, enc_all}
 use Rattle.rules.specs.Translation.{size_l, prog, code_of}
 use Rattle.theorems.specs.Sizes.{code-length}
-use Rattle.emit.specs.Places.{Put, ListCode}
+use Rattle.emit.specs.Places.{Put, Writes, ListCode}
 use Rattle.emit.specs.Records.{CodeWritten}
-use Rattle.emit.specs.declared.expressions.Place.{Place}
+use Rattle.emit.specs.Places.{Place}
 use Rattle.emit.proofs.Writing.{puts, wrote_put}
-use Rattle.emit.proofs.CodeBytes.{Writes}
 use Rattle.emit.proofs.Following.{list_on}
 
 put_halt : {code code' : L.List ℕ} {at r : ℕ} → Writes code code' at (29 ∷ []) r → Put (enc_all (HALT ∷ [])) code code' at r

@@ -13,11 +13,11 @@ use Rattle.rules.specs.Depth.{depth_l}
 use Rattle.rules.specs.Worst.{worst_l, figure}
 use Rattle.rules.specs.Compile.{front, compiled, answer, compile, buffer_after}
 use Rattle.rules.specs.CoreCells.{program_cells, program_for, program_left, walked}
-use Rattle.rules.specs.Answers.{compiled_as, figured}
-use Rattle.rules.specs.declared.Compiled.{Compiled}
-use Rattle.rules.specs.declared.Compiled.TheVariants.{Refused}
-use Rattle.rules.specs.declared.Figured.{Figured}
-use Rattle.rules.specs.declared.Figured.TheVariants.{Figures, Refused as FiguredRefused}
+use Rattle.std.specs.Prelude.{Result, Ok, Err}
+use Rattle.rules.specs.Answers.{fault_number, answer_of, compiled_as, figured}
+use Rattle.rules.specs.declared.compiling.Compiled.{Compiled}
+use Rattle.rules.specs.declared.compiling.Refusal.{Refusal}
+use Rattle.rules.specs.declared.compiling.Stated.{Stated}
 use Rattle.theorems.specs.Promise.{front_fits}
 use Rattle.cells.specs.Reading.{Lies}
 use Rattle.figures.specs.Parts.{ProgramFits}
@@ -48,8 +48,8 @@ program-lies text lent m p e fits same =
 
 module _ (text lent m buffer : List ℕ) where
   -- the answer, and the buffer afterwards
-  abbrev Emits : Compiled → List ℕ → Type 0
-  Emits r buffer' = (r ≡ compiled_as (compile (length lent) (length buffer) text)) × (buffer' ≡ buffer_after (compile (length lent) (length buffer) text) buffer)
+  abbrev Emits : Result Compiled Refusal → List ℕ → Type 0
+  Emits r buffer' = (answer_of r ≡ compiled_as (compile (length lent) (length buffer) text)) × (buffer' ≡ buffer_after (compile (length lent) (length buffer) text) buffer)
 
   -- what compiling answers, by what the walk answers
   by_walk : (o : Res Program) → program_for (length lent) text ≡ o → compile (length lent) (length buffer) text ≡ answer (◌>>=◌ o (finished (length buffer) (length text)))
@@ -57,34 +57,33 @@ module _ (text lent m buffer : List ℕ) where
   by_walk o e = ap answer (compiled-finished (length lent) (length buffer) text ∙ ap (λ r. ◌>>=◌ r (finished (length buffer) (length text))) e)
 
   -- a refusal of the walk
-  refusal : (n q : ℕ) (o : Res Program) → program_for (length lent) text ≡ o → FiguredRefused n q ≡ figured o → Emits (Refused n q) buffer
+  refusal : (w : Refusal) (o : Res Program) → program_for (length lent) text ≡ o → refuse (fault_number w.fault) w.place ≡ figured o → Emits (Err w) buffer
   unfolding answer buffer_after ◌>>=◌
-  refusal n q (ok p) h e = let z : ◌≡◌ {A = ℕ} 0 1 = cc in absurd (omega arith)
-  refusal n q (refuse k r) h e =
-      let a : n ≡ k = cc in
-      let b : q ≡ r = cc in
+  refusal w (ok p) h e = let z : ◌≡◌ {A = ℕ} 0 1 = cc in absurd (omega arith)
+  refusal w (refuse k r) h e =
+      let a : fault_number w.fault ≡ k = cc in
+      let b : w.place ≡ r = cc in
       rw (by_walk (refuse k r) h, a, b) (refl, refl)
 
   -- the walk refused: so does compiling, and the buffer stays as it was
-  pub refused_emits : (stated : Figured) (n q : ℕ) → stated ≡ FiguredRefused n q → (stated ≡ figured (program_for (length lent) text)) × ((m ≡ (walked text lent).memory) × ProgramFits (program_for (length lent) text))
-      → (Refused n q ≡ compiled_as (compile (length lent) (length buffer) text)) × ((buffer ≡ buffer_after (compile (length lent) (length buffer) text) buffer) × (m ≡ (walked text lent).memory))
-  refused_emits stated n q known did = let e = refusal n q (program_for (length lent) text) refl (rw known at did.0) in (e.0, (e.1, did.1.0))
+  pub refused_emits : (w : Refusal) → (answer_of {A = Stated} (Err w) ≡ figured (program_for (length lent) text)) × ((m ≡ (walked text lent).memory) × ProgramFits (program_for (length lent) text))
+      → (answer_of {A = Compiled} (Err w) ≡ compiled_as (compile (length lent) (length buffer) text)) × ((buffer ≡ buffer_after (compile (length lent) (length buffer) text) buffer) × (m ≡ (walked text lent).memory))
+  refused_emits w did = let e = refusal w (program_for (length lent) text) refl did.0 in (e.0, (e.1, did.1.0))
 
   -- a program that the walk left
-  accepting : (buffer' : List ℕ) (r : Compiled) (depth worst : ℕ) (o : Res Program) → program_for (length lent) text ≡ o → ProgramFits o → Figures depth worst ≡ figured o → m ≡ (program_left o lent).memory
-      → Finished m (length text) depth worst buffer buffer' r → Emits r buffer'
+  accepting : (buffer' : List ℕ) (r : Result Compiled Refusal) (s : Stated) (o : Res Program) → program_for (length lent) text ≡ o → ProgramFits o → ok s ≡ figured o → m ≡ (program_left o lent).memory
+      → Finished m (length text) s.depth s.worst buffer buffer' r → Emits r buffer'
   unfolding ◌>>=◌
-  accepting buffer' r depth worst (ok p) h fits e same did =
-      let d : depth ≡ depth_l p.body = cc in
-      let w : worst ≡ figure (worst_l p.body) = cc in
-      rw (by_walk (ok p) h) (did p (front_fits text p (passed (length lent) text p h).fronted) (program-lies text lent m p h fits same) d w)
-  accepting buffer' r depth worst (refuse n q) h fits e same did = let z : ◌≡◌ {A = ℕ} 0 1 = cc in absurd (omega arith)
+  accepting buffer' r s (ok p) h fits e same did =
+      let is : s ≡ record { depth = depth_l p.body; worst = figure (worst_l p.body) } = cc in
+      rw (by_walk (ok p) h) (did p (front_fits text p (passed (length lent) text p h).fronted) (program-lies text lent m p h fits same) (ap (λ (x : Stated). x.depth) is) (ap (λ (x : Stated). x.worst) is))
+  accepting buffer' r s (refuse n q) h fits e same did = let z : ◌≡◌ {A = ℕ} 0 1 = cc in absurd (omega arith)
 
   -- the walk left a program: what is asked of it last decides
-  pub finished_emits : (buffer' : List ℕ) (r : Compiled) (stated : Figured) (depth worst : ℕ) → stated ≡ Figures depth worst
-      → (stated ≡ figured (program_for (length lent) text)) × ((m ≡ (walked text lent).memory) × ProgramFits (program_for (length lent) text)) → Finished m (length text) depth worst buffer buffer' r
-      → (r ≡ compiled_as (compile (length lent) (length buffer) text)) × ((buffer' ≡ buffer_after (compile (length lent) (length buffer) text) buffer) × (m ≡ (walked text lent).memory))
+  pub finished_emits : (buffer' : List ℕ) (r : Result Compiled Refusal) (s : Stated)
+      → (answer_of (Ok s) ≡ figured (program_for (length lent) text)) × ((m ≡ (walked text lent).memory) × ProgramFits (program_for (length lent) text)) → Finished m (length text) s.depth s.worst buffer buffer' r
+      → (answer_of r ≡ compiled_as (compile (length lent) (length buffer) text)) × ((buffer' ≡ buffer_after (compile (length lent) (length buffer) text) buffer) × (m ≡ (walked text lent).memory))
   unfolding walked
-  finished_emits buffer' r stated depth worst known did finish =
-      let e = accepting buffer' r depth worst (program_for (length lent) text) refl did.1.1 (rw known at did.0) did.1.0 finish in
+  finished_emits buffer' r s did finish =
+      let e = accepting buffer' r s (program_for (length lent) text) refl did.1.1 did.0 did.1.0 finish in
       (e.0, (e.1, did.1.0))

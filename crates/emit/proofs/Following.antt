@@ -16,7 +16,7 @@ use Rattle.theorems.specs.Levels.{fors_s, fors_l, nest_s, nest_l}
 use Rattle.cells.specs.Reading.{behind, Lies}
 use Rattle.cells.specs.Laws.{lies_first, lies_rest}
 use Rattle.emit.specs.Places.{Put, Wrote, Allows, HeldCode, LabelsCode, StatementCode, ListCode}
-use Rattle.emit.specs.declared.expressions.Place.{Place}
+use Rattle.emit.specs.Places.{Place}
 use Rattle.emit.specs.declared.statements.Around.{Around}
 use Rattle.emit.proofs.Writing.{wrote_put, wrote_past, wrote_then}
 use Rattle.emit.proofs.CodeBytes.{bytes_instr, bytes-e, bytes_lb, bytes-s, bytes-l, length_instr, length-e, length_lb, length-s, length-l}

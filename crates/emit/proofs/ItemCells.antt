@@ -15,11 +15,11 @@ use Rattle.rules.specs.Cells.{cell, truth_kind, UNARY, BINARY}
 use Rattle.rules.specs.CoreCells.{expr_cells, span_cells}
 use Rattle.theorems.specs.Fields.{FitE}
 use Rattle.cells.specs.Reading.{is_item}
-use Rattle.cells.specs.declared.Cell.{Cell}
+use Rattle.cells.specs.declared.cell.Cell.{Cell}
 use Rattle.emit.specs.Items.{item_bytes}
-use Rattle.emit.specs.Places.{Put}
+use Rattle.emit.specs.Places.{Put, Writes}
 use Rattle.emit.proofs.CellLoops.{put_then, Passed, none, next, passed_then}
-use Rattle.emit.proofs.CodeBytes.{bytes-e, Writes, one, two}
+use Rattle.emit.proofs.CodeBytes.{bytes-e, one, two}
 use Rattle.emit.proofs.Writing.{puts}
 
 -- Expressions

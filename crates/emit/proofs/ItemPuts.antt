@@ -1,18 +1,16 @@
 -- What `item` of `expressions` puts, tag by tag: the bytes that a cell stands for. Assumes nothing.
 use mathlib.Core.Path.{◌≡◌, refl, sym}
 use mathlib.Core.List.{List, [], ◌∷◌}
-use mathlib.Core.Logic.{inl, inr}
+use mathlib.Core.Logic.{◌⊎◌, inl, inr}
 use Prim.Native.Nat.{ℕ, ◌%◌}
 use native.Mathlib.Nat.{add-zero}
 use native.Mathlib.Omega.{arith}
 use borrow.Author.Tests.{ne_eqb}
-use types.Run.{OneOf}
 use Rattle.rules.specs.Bytes.{put4}
 use Rattle.rules.specs.Kinds.{NAME, INT, TRUE, FALSE}
 use Rattle.rules.specs.Cells.{UNARY, BINARY}
 use Rattle.emit.specs.Items.{item_bytes}
-use Rattle.emit.specs.Places.{Put}
-use Rattle.emit.proofs.CodeBytes.{Writes}
+use Rattle.emit.specs.Places.{Put, Writes}
 use Rattle.emit.proofs.Writing.{puts}
 
 -- a cell that gives nothing
@@ -20,7 +18,7 @@ nothing : (code : List ℕ) (at : ℕ) → Put [] code code at at
 nothing code at = record { puts = λ most room. (sym (add-zero at), refl) }
 
 module _ (k d : ℕ) {code code' : List ℕ} {at r : ℕ} where
-  pub item-value : OneOf (INT ∷ FALSE ∷ TRUE ∷ []) k → Writes code code' at (2 ∷ put4 d []) r → Put (item_bytes k d) code code' at r
+  pub item-value : (k ≡ INT) ⊎ ((k ≡ TRUE) ⊎ (k ≡ FALSE)) → Writes code code' at (2 ∷ put4 d []) r → Put (item_bytes k d) code code' at r
   unfolding item_bytes put4
   item-value (inl e) w = rw e (puts (2 ∷ put4 d []) (omega arith) w)
   item-value (inr (inl e)) w = rw e (puts (2 ∷ put4 d []) (omega arith) w)
@@ -43,7 +41,7 @@ module _ (k d : ℕ) (code : List ℕ) (at : ℕ) where
   unfolding item_bytes
   item-plus e z = rw (e, z) (nothing code at)
 
-  pub item-none : (OneOf (INT ∷ FALSE ∷ TRUE ∷ []) k → ⊥) → (k ≡ NAME → ⊥) → (k ≡ BINARY → ⊥) → (k ≡ UNARY → ⊥) → Put (item_bytes k d) code code at at
+  pub item-none : (k ≡ INT → ⊥) → (k ≡ TRUE → ⊥) → (k ≡ FALSE → ⊥) → (k ≡ NAME → ⊥) → (k ≡ BINARY → ⊥) → (k ≡ UNARY → ⊥) → Put (item_bytes k d) code code at at
   unfolding item_bytes
-  item-none v n b u =
-      rw (ne_eqb k INT (λ e. v (inl e)), ne_eqb k TRUE (λ e. v (inr (inr e))), ne_eqb k FALSE (λ e. v (inr (inl e))), ne_eqb k NAME n, ne_eqb k BINARY b, ne_eqb k UNARY u) (nothing code at)
+  item-none i t f n b u =
+      rw (ne_eqb k INT i, ne_eqb k TRUE t, ne_eqb k FALSE f, ne_eqb k NAME n, ne_eqb k BINARY b, ne_eqb k UNARY u) (nothing code at)

@@ -17,14 +17,15 @@ use Rattle.rules.specs.Worst.{worst_l, figure}
 use Rattle.rules.specs.Image.{image}
 use Rattle.rules.specs.Compile.{answer, buffer_after}
 use Rattle.rules.specs.CoreCells.{variable_cells, body_cells, program_cells}
-use Rattle.rules.specs.declared.Compiled.TheVariants.{Accepted, Refused}
+use Rattle.std.specs.Prelude.{Ok, Err}
+use Rattle.rules.specs.declared.compiling.Fault.TheVariants.{LongCode, ShortBuffer}
 use Rattle.theorems.specs.Promise.{Fronted}
 use Rattle.cells.specs.Reading.{Lies}
 use Rattle.cells.specs.Laws.{lies_first, lies_rest}
 use Rattle.emit.specs.Sizes.{capped, ListSize}
 use Rattle.emit.specs.Records.{VariablesMean, Writable, ImageWritten, finished, Finished}
-use Rattle.emit.specs.declared.records.Variables.{Variables}
-use Rattle.emit.specs.declared.sizes.Sized.{Sized}
+use Rattle.emit.specs.Records.{Variables}
+use Rattle.emit.specs.Sizes.{Sized}
 use Rattle.emit.proofs.Lengths.{code_of_length, image-records, image-length}
 
 -- The answers
@@ -67,14 +68,14 @@ module _ (m buffer : L.List ℕ) (v : Variables) (s : Sized) (variables : Variab
       record { vars = vars; body = body; count = read.1; size = ap (λ (z : Sized). z.size) (list p.body body f.nests) }
 
   -- 13
-  pub refused_13 : 8191 < s.size → Finished m end depth worst buffer buffer (Refused 13 end)
+  pub refused_13 : 8191 < s.size → Finished m end depth worst buffer buffer (Err (record { fault = LongCode; place = end }))
   unfolding capped answer buffer_after
   refused_13 long p f l d w =
       let z = (sizing p f l).size in
       rw (asked_13 (length buffer) end p (omega arith)) (refl, refl)
 
   -- 14
-  pub refused_14 : s.size ≤ 8191 → length buffer < 19 + 5 * v.count + s.size → Finished m end depth worst buffer buffer (Refused 14 end)
+  pub refused_14 : s.size ≤ 8191 → length buffer < 19 + 5 * v.count + s.size → Finished m end depth worst buffer buffer (Err (record { fault = ShortBuffer; place = end }))
   unfolding capped answer buffer_after
   refused_14 short room p f l d w =
       let z = sizing p f l in
@@ -108,7 +109,7 @@ module _ (m buffer : L.List ℕ) (v : Variables) (s : Sized) (variables : Variab
 
   -- the image is written
   pub written_whole : (total code : ℕ) (buffer' : L.List ℕ) → s.size ≤ 8191 → total ≡ 19 + 5 * v.count + s.size → total ≤ length buffer → code ≡ s.size + 1
-      → ImageWritten v s.size (depth % 65536) worst m buffer buffer' → Finished m end depth worst buffer buffer' (Accepted total code depth worst)
+      → ImageWritten v s.size (depth % 65536) worst m buffer buffer' → Finished m end depth worst buffer buffer' (Ok (record { image = total; code = code; depth = depth; worst = worst }))
   unfolding answer buffer_after
   written_whole total code buffer' short sum room coded written p f l d w =
       let k = whole total buffer' short sum room written p f l in

@@ -7,11 +7,13 @@ pub mod Emitted
 pub mod Following
 pub mod ItemCells
 pub mod ItemPuts
+pub mod KindTests
 pub mod LastAsked
 pub mod Lengths
 pub mod LoopCodes
 pub mod PartsDone
 pub mod PutSteps
+pub mod Readers
 pub mod RecordPuts
 pub mod SizeItems
 pub mod SizeLists

@@ -14,7 +14,7 @@ use Rattle.rules.specs.Image.{var_bytes, figure_bytes}
 use Rattle.writing.specs.Puts.{put_at}
 use Rattle.writing.proofs.Buffers.{sets_append, put_in}
 use Rattle.emit.specs.Records.{VariablesWritten, CodeWritten, ImageWritten, records}
-use Rattle.emit.specs.declared.records.Variables.{Variables}
+use Rattle.emit.specs.Records.{Variables}
 use Rattle.emit.proofs.Lengths.{variables-length, code_of_length, figures-length}
 
 -- Stores into a part of a list
@@ -83,7 +83,7 @@ records-parts vs l depth worst e n =
 
 -- All three, one behind the other, the code in the part of the buffer behind its head
 pub image-written : (i₀ : L.List ℕ) (v : Variables) (depth worst : ℕ) {m i₁ i₂ i₃ part i₅ i₆ : L.List ℕ} {size : ℕ} → 19 + 5 * v.count + size ≤ length i₀
-    → i₁ ≡ put_at i₀ 0 (record_head 1 (5 * v.count)) → VariablesWritten m i₁ i₂ → i₃ ≡ put_at i₂ (4 + 5 * v.count) (record_head 2 (size + 1))
+    → i₁ ≡ put_at i₀ 0 (record_head 1 (5 * v.count)) → VariablesWritten v.count m i₁ i₂ → i₃ ≡ put_at i₂ (4 + 5 * v.count) (record_head 2 (size + 1))
     → CodeWritten m (take (length i₃ - (8 + 5 * v.count)) (drop (8 + 5 * v.count) i₃)) part v.at size
     → i₅ ≡ put_at (take (8 + 5 * v.count) i₃ ++ (part ++ drop (length i₃ - (8 + 5 * v.count)) (drop (8 + 5 * v.count) i₃))) (8 + 5 * v.count + (size + 1)) (record_head 3 6)
     → i₆ ≡ put_at i₅ (12 + 5 * v.count + (size + 1)) (figure_bytes depth worst) → ImageWritten v size depth worst m i₀ i₆
@@ -92,7 +92,7 @@ image-written i₀ v depth worst {i₃ = i₃} {size = size} room one variables 
     let n = variables-length vs in
     let c = code_of_length l in
     let s₁ = starts_put (record_head 1 (5 * v.count)) (starts_none i₀) refl (head-length 1 (5 * v.count)) (omega arith) one in
-    let s₂ = starts-sets (var_bytes vs) s₁ refl n (variables vs declared lies-v (omega (arith, kept s₁))) in
+    let s₂ = starts-sets (var_bytes vs) s₁ refl n (variables vs count declared lies-v (omega (arith, kept s₁))) in
     let s₃ = starts_put (record_head 2 (size + 1)) s₂ (omega arith) (head-length 2 (size + 1)) (omega arith) two in
     let d = length-drop k i₃ in
     let t = length-take-le (length i₃ - k) (drop k i₃) (omega arith) in

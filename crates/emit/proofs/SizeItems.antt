@@ -15,9 +15,9 @@ use Rattle.rules.specs.Cells.{cell, truth_kind, UNARY, BINARY, WHOLE}
 use Rattle.rules.specs.CoreCells.{expr_cells, held_cells, span_cells}
 use Rattle.cells.specs.Reading.{cell_in, behind, is_item, Lies}
 use Rattle.cells.specs.Laws.{cell_lies}
-use Rattle.cells.specs.declared.Cell.{Cell}
+use Rattle.cells.specs.declared.cell.Cell.{Cell}
 use Rattle.emit.specs.Sizes.{capped, item_size}
-use Rattle.emit.specs.declared.sizes.Sized.{Sized}
+use Rattle.emit.specs.Sizes.{Sized}
 use Rattle.emit.proofs.CoreHeads.{tag_lies, head_lb, tag-labels}
 use Rattle.emit.proofs.SizeSums.{past_cell, HeldDoes, LabelsDo, counts_past}
 use Rattle.emit.proofs.SizeLoops.{Rest, End, Loop, Looped, loop_start, loop_turn, loop_done, rest_by, end_past}

@@ -13,7 +13,7 @@ use Rattle.rules.specs.CoreCells.{held_cells, span_cells, stmt_cells, body_cells
 use Rattle.theorems.specs.Levels.{levels_l, levels_b, levels_g, nest_l, nest_b, nest_g}
 use Rattle.cells.specs.Reading.{cell_in, behind, is_label, Lies, Moves}
 use Rattle.emit.specs.Sizes.{capped, jump_size}
-use Rattle.emit.specs.declared.sizes.Sized.{Sized}
+use Rattle.emit.specs.Sizes.{Sized}
 use Rattle.emit.proofs.CoreHeads.{head_l, head_b, head_g, tag-list, tag-branches, tag-groups, statement_goes_on, label-starts, list-starts}
 use Rattle.emit.proofs.SizeSums.{past_cell, onward, HeldDoes, LabelsDo, StatementDoes, ListDoes, BranchesDo, GroupsDo, counts_past, counts_then, counts_held, counts-labels, counts-statement, counts-list, counts_behind, add_on}
 use Rattle.emit.proofs.SizeLoops.{End, Loop, Looped, loop_start, loop_turn, loop_done, rest_by, end_by, end_past}

@@ -9,7 +9,7 @@ use Rattle.rules.specs.Cells.{cell}
 use Rattle.cells.specs.Reading.{behind, Moves, Lies}
 use Rattle.cells.specs.Laws.{lies_first}
 use Rattle.emit.specs.Sizes.{capped, sized}
-use Rattle.emit.specs.declared.sizes.Sized.{Sized}
+use Rattle.emit.specs.Sizes.{Sized}
 use Rattle.emit.proofs.SizeSums.{capped_left, capped_twice, same_sum, Counts, counts_past, counts_behind}
 
 -- of x, which lies where the loop begins, this part lies where it has come to; together they make up the size

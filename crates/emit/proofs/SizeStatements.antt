@@ -12,7 +12,7 @@ use Rattle.rules.specs.CoreCells.{stmt_cells}
 use Rattle.theorems.specs.Levels.{levels_s, nest_s}
 use Rattle.cells.specs.Reading.{cell_in, behind, Lies}
 use Rattle.emit.specs.Sizes.{capped, sized, StatementSize, CompoundSize}
-use Rattle.emit.specs.declared.sizes.Sized.{Sized}
+use Rattle.emit.specs.Sizes.{Sized}
 use Rattle.emit.proofs.CoreHeads.{head_s, tag-statement, nested, by_head, Arm}
 use Rattle.emit.proofs.SizeSums.{past_cell, onward, HeldDoes, StatementDoes, CompoundDoes, ListDoes, BranchesDo, GroupsDo, counts_past, counts_then, counts_held, counts-list, counts-branches, counts-groups, counts_done, add_on}
 

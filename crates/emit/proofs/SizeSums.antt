@@ -13,7 +13,7 @@ use Rattle.theorems.specs.Levels.{nest_s, nest_l, nest_b, nest_g}
 use Rattle.cells.specs.Reading.{cell_in, behind, Lies, Moves}
 use Rattle.cells.specs.Laws.{lies_first, lies_rest, behind_cell, behind_moves, tag_moves}
 use Rattle.emit.specs.Sizes.{capped, sized, HeldSize, LabelsSize, StatementSize, CompoundSize, ListSize, BranchesSize, GroupsSize}
-use Rattle.emit.specs.declared.sizes.Sized.{Sized}
+use Rattle.emit.specs.Sizes.{Sized}
 
 -- Moving on
 
@@ -35,10 +35,6 @@ fewer m i j sees some moves = let k = tag_moves m i (λ e. some (sees ∙ e)) in
 pub capped_left : (a b : ℕ) → capped (capped a + b) ≡ capped (a + b)
 unfolding capped
 capped_left a b = omega arith
-
-pub capped_right : (a b : ℕ) → capped (a + capped b) ≡ capped (a + b)
-unfolding capped
-capped_right a b = omega arith
 
 pub capped_twice : (a : ℕ) → capped (capped a) ≡ capped a
 unfolding capped

@@ -15,20 +15,20 @@ use Rattle.theorems.specs.Fields.{FitS}
 use Rattle.theorems.specs.Levels.{levels_s, fors_s, nest_s}
 use Rattle.cells.specs.Reading.{cell_in, behind, Moves}
 use Rattle.cells.specs.Laws.{cell_lies}
-use Rattle.cells.specs.declared.Cell.{Cell}
-use Rattle.emit.specs.Places.{sum, Wrote, Allows, StatementCode}
+use Rattle.cells.specs.declared.cell.Cell.{Cell}
+use Rattle.emit.specs.Places.{ahead, Writes, Wrote, Allows, StatementCode}
 use Rattle.emit.specs.Compounds.{head_of, RestCode, ForCode, WhileCode, RepeatCode}
-use Rattle.emit.specs.declared.expressions.Place.{Place}
-use Rattle.emit.specs.declared.sizes.Sized.{Sized}
+use Rattle.emit.specs.Places.{Place}
+use Rattle.emit.specs.Sizes.{Sized}
 use Rattle.emit.specs.declared.statements.Around.{Around}
 use Rattle.emit.proofs.Writing.{wrote_put}
-use Rattle.emit.proofs.CodeBytes.{Writes, put_tick, put_store}
+use Rattle.emit.proofs.CodeBytes.{put_tick, put_store}
 use Rattle.emit.proofs.CoreHeads.{head_s, nested, Arm, by_head}
 use Rattle.emit.proofs.SizeSums.{past_cell, onward, BranchesDo, GroupsDo}
 use Rattle.emit.proofs.SizeStatements.{repeats}
 use Rattle.emit.proofs.PartsDone.{HeldDone, StatementDone, CompoundDone, BranchesDone, GroupsDone}
 use Rattle.emit.proofs.Following.{wrote_if, wrote_on, past_on, held_on}
-use Rattle.emit.proofs.Targets.{sum-exact, size_exact, jump_to}
+use Rattle.emit.proofs.Targets.{ahead_exact, size_exact, jump_to}
 use Rattle.emit.proofs.LoopCodes.{ends, rest_if}
 
 -- a statement's cells and its code, with the first cell and the TICK apart
@@ -130,27 +130,27 @@ Lists start around m code code' p r x = 1 ≤ nest_s x → RestCode x start arou
 
 module _ (start : ℕ) {m code code' : L.List ℕ} {p r : Place} {head : Cell} {around : Around} where
   -- IF: its branches
-  pub if_code : {size : Sized} {end : ℕ} → head.tag ≡ IF → BranchesDo m p.at around.levels size → end ≡ sum p.code size.size
+  pub if_code : {size : Sized} {end : ℕ} → head.tag ≡ IF → BranchesDo m p.at around.levels size → end ≡ ahead p.code size.size
       → BranchesDone end around m code code' p r → CompoundDone head start around m code code' p r
   unfolding stmt_cells code_s cell size_s levels_s Arm
   if_code t size end w = record {
     fine = w.fine;
     means = of_head head (Lists start around m code code' p r) IF t (λ b h n f g e. rest_if (if b) start around.exit around.fors refl e (λ lies room.
         let s = size_exact _ (size_b b) (size.means b lies (omega arith)) (omega arith) in
-        let u = sum-exact _ _ end (omega arith) (omega arith) in
+        let u = ahead_exact _ _ end (omega arith) (omega arith) in
         rw (← e) (w.means b f (omega arith) (omega arith))));
   }
 
   -- CASE: the selector, and its groups
   pub case-code : {code₁ : L.List ℕ} {selector : Place} {size : Sized} {end : ℕ} → head.tag ≡ CASE → HeldDone m code code₁ p selector → GroupsDo m selector.at around.levels size
-      → end ≡ sum selector.code size.size → GroupsDone end around m code₁ code' selector r → CompoundDone head start around m code code' p r
+      → end ≡ ahead selector.code size.size → GroupsDone end around m code₁ code' selector r → CompoundDone head start around m code code' p r
   unfolding stmt_cells code_s cell size_s levels_s Arm
   case-code {selector} {end} t v size is w = record {
     fine = onward m _ _ _ v.fine w.fine;
     means = of_head head (Lists start around m code code' p r) CASE t (λ a x h n f g e. rest_if (case a x) start around.exit around.fors refl e (λ lies room.
         held_on 0 a _ f.0 v.means (λ e₁ lies₁.
         let s = size_exact _ (size_g x) (size.means x lies₁ (omega arith)) (omega arith) in
-        let u = sum-exact _ _ is (omega arith) (omega arith) in
+        let u = ahead_exact _ _ is (omega arith) (omega arith) in
         let from : start + 1 + size_e a ≡ selector.code = omega arith in
         let to : selector.code + size_g x ≡ end = omega arith in
         rw (from, to) (w.means x f.1 (omega arith) (omega arith)))));

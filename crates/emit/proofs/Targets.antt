@@ -4,18 +4,21 @@ use mathlib.Core.List.{List, [], ◌∷◌}
 use Prim.Native.Nat.{ℕ, ◌+◌, ◌/◌, ◌%◌, ◌≤◌, ◌<◌}
 use native.Mathlib.Omega.{arith}
 use lib.IntN.{ℤ}
-use borrow.Author.Tests.{le-leb}
 use Rattle.rules.specs.Bytes.{to_u, put4}
 use Rattle.rules.specs.Codes.{JUMP, JZ, FIRST, NEXT, enc_all}
 use Rattle.emit.specs.Sizes.{capped, sized}
-use Rattle.emit.specs.Places.{sum, Put}
-use Rattle.emit.specs.declared.sizes.Sized.{Sized}
-use Rattle.emit.proofs.CodeBytes.{Writes, put_jump, put_jz, put_first, put_next}
+use Rattle.emit.specs.Places.{ahead, Put, Writes}
+use Rattle.emit.specs.Sizes.{Sized}
+use Rattle.emit.proofs.CodeBytes.{put_jump, put_jz, put_first, put_next}
 
--- a sum of small numbers
-pub sum-exact : (a b : ℕ) {s : ℕ} → s ≡ sum a b → a ≤ 100000 → b ≤ 100000 → s ≡ a + b
-unfolding sum
-sum-exact a b e h k = e ∙ rw (le-leb a 8388608 (omega arith), le-leb b 8388608 (omega arith))
+-- a target near enough
+pub ahead_exact : (at size : ℕ) {t : ℕ} → t ≡ ahead at size → at ≤ 100000 → size ≤ 100000 → t ≡ at + size
+ahead_exact at size e h k = e ∙ omega arith
+
+-- a sum of small sizes
+pub added_exact : (a b : ℕ) {s : ℕ} → s ≡ capped (a + b) → a + b ≤ 8192 → s ≡ a + b
+unfolding capped
+added_exact a b e h = e ∙ omega arith
 
 -- the size of a part that fits
 pub size_exact : {s : Sized} (at n : ℕ) → s ≡ sized at n → n ≤ 8192 → s.size ≡ n

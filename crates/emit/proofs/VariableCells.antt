@@ -1,8 +1,9 @@
 -- The variables of the core program, cell by cell: counted, and put into an image. Assumes nothing.
 use mathlib.Core.Path.{◌≡◌, refl, sym, ap, ◌∙◌, subst}
-use mathlib.Core.Bool.{Bool}
+use mathlib.Core.Bool.{Bool, true, false, not}
+use Rattle.std.proofs.lemmas.Bool.{eqb-true}
 use mathlib.Core.List.{List, [], ◌∷◌, ◌++◌}
-use Prim.Native.Nat.{ℕ, ◌+◌, ◌*◌, ◌≤◌}
+use Prim.Native.Nat.{ℕ, ◌+◌, ◌*◌, ◌≤◌, ◌<◌, min}
 use native.Mathlib.Omega.{arith}
 use lib.Dec.{eqb}
 use lib.IntN.{ℤ}
@@ -11,7 +12,7 @@ use lib.Seq.{sets}
 use Rattle.rules.specs.Limits.{token_numbers}
 use Rattle.rules.specs.Numbers.{Ty, bool, dint}
 use Rattle.rules.specs.Bytes.{of_u, to_u, put4}
-use Rattle.rules.specs.Kinds.{FINISH, DINT}
+use Rattle.rules.specs.Kinds.{FINISH}
 use Rattle.rules.specs.Cells.{cell, end_cell, type_kind}
 use Rattle.rules.specs.Core.{Variable}
 use Rattle.rules.specs.CoreCells.{variable_cell, variable_cells}
@@ -21,9 +22,21 @@ use Rattle.theorems.specs.Decoding.{of_u-to_u}
 use Rattle.theorems.specs.Records.{held_small}
 use Rattle.cells.specs.Reading.{cell_in, behind, Lies}
 use Rattle.cells.specs.Laws.{cell_lies, behind_cell}
-use Rattle.cells.specs.declared.Cell.{Cell}
-use Rattle.writing.specs.Puts.{declared, put_at}
+use Rattle.cells.specs.declared.cell.Cell.{Cell}
+use Rattle.writing.specs.Puts.{put_at}
 use Rattle.writing.proofs.Buffers.{sets_append, put_in}
+use Rattle.emit.specs.Records.{type_told}
+
+-- whether a cell is another than the one that ends them
+pub goes_on : (t : ℕ) → not (eqb t FINISH) ≡ true → t ≡ FINISH → ⊥
+goes_on t h e = let z : not (eqb FINISH FINISH) ≡ true = rw e at h in cc
+
+pub at_end : (t : ℕ) → not (eqb t FINISH) ≡ false → t ≡ FINISH
+at_end t h = eqb-true t FINISH (is_true (eqb t FINISH) h)
+  where
+    is_true : (b : Bool) → not b ≡ false → b ≡ true
+    is_true true e = refl
+    is_true false e = cc
 
 -- The cells
 
@@ -83,25 +96,17 @@ count-starts {vs} l = record { left = vs; lies = l; place = refl; count = omega 
 
 module _ {m : List ℕ} {vs : List Variable} {i n tag : ℕ} (sees : tag ≡ (cell_in m i).tag) where
   -- one more
-  pub counts_one : (tag ≡ FINISH → ⊥) → {j : ℕ} → j ≡ behind m i → Counted m vs i n → Counted m vs j (n + 1)
-  counts_one some {j} past c = go c.left c.lies c.place c.count
+  pub counts_one : (tag ≡ FINISH → ⊥) → {j k : ℕ} → j ≡ behind m i → k ≡ min (n + 1) 64 → length vs ≤ 64 → Counted m vs i n → Counted m vs j k
+  counts_one some {j} {k} past more few c = go c.left c.lies c.place c.count
     where
       go : (left : List Variable) → Lies m i (variable_cells left) → i + length (variable_cells left) ≡ token_numbers + length (variable_cells vs) → n + length left ≡ length vs
-          → Counted m vs j (n + 1)
+          → Counted m vs j k
       go [] l place count = absurd (one_left sees some l)
       go (v ∷ left) l place count =
           let o = others v left past l in
-          let k = numbers v left in
+          let three = numbers v left in
           let f = o.0 in
           record { left = left; lies = o.1; place = omega arith; count = omega arith }
-
-  -- no more than all
-  pub counts-few : (tag ≡ FINISH → ⊥) → length vs ≤ n → Counted m vs i n → ⊥
-  counts-few some full c = go c.left c.lies c.count
-    where
-      go : (left : List Variable) → Lies m i (variable_cells left) → n + length left ≡ length vs → ⊥
-      go [] l count = one_left sees some l
-      go (v ∷ left) l count = omega arith
 
   -- at the end all of them, and their last cell is passed
   pub counts_all : tag ≡ FINISH → {j : ℕ} → j ≡ behind m i → Counted m vs i n → (j ≡ token_numbers + length (variable_cells vs)) × (n ≡ length vs)
@@ -114,6 +119,10 @@ module _ {m : List ℕ} {vs : List Variable} {i n tag : ℕ} (sees : tag ≡ (ce
 
 -- Putting
 
+empty : (vs : List Variable) → length vs ≡ 0 → vs ≡ []
+empty [] e = refl
+empty (v ∷ vs) e = absurd (omega arith)
+
 -- the bytes of the first variable, and those of the others
 bytes_then : (v : Variable) (vs : List Variable) → var_bytes (v ∷ []) ++ var_bytes vs ≡ var_bytes (v ∷ vs)
 unfolding var_bytes put4
@@ -124,8 +133,8 @@ unfolding var_bytes put4
 five v = refl
 
 -- a type is told by its tag
-type_back : (τ : Ty) → declared (eqb (type_kind τ) DINT) ≡ τ
-unfolding declared type_kind
+type_back : (τ : Ty) → type_told (type_kind τ) ≡ τ
+unfolding type_told type_kind
 type_back bool = refl
 type_back dint = refl
 
@@ -140,41 +149,37 @@ pub record Written (m image₀ image : List ℕ) (vs : List Variable) (i offset 
 pub write-starts : {m image : List ℕ} {vs : List Variable} → Declared vs → Lies m token_numbers (variable_cells vs) → Written m image image vs token_numbers 4
 write-starts {vs} d l = record { left = vs; lies = l; held = d.held; size = refl; stores = refl }
 
-module _ {m image₀ image : List ℕ} {vs : List Variable} {i offset tag : ℕ} (sees : tag ≡ (cell_in m i).tag) where
+module _ {m image₀ image : List ℕ} {vs : List Variable} {i offset : ℕ} where
   -- one more is put
-  pub writes_one : (tag ≡ FINISH → ⊥) → {c : Cell} → c ≡ cell_in m i → {z : ℤ} → z ≡ of_u c.datum → {d : Bool} → d ≡ eqb c.tag DINT
-      → {image' : List ℕ} → image' ≡ put_at image offset (var_bytes (record { type = declared d; init = z } ∷ [])) → {j : ℕ} → j ≡ behind m i
-      → length image ≡ length image₀ → 4 + 5 * length vs ≤ length image₀ → Written m image₀ image vs i offset → Written m image₀ image' vs j (offset + 5)
-  writes_one some {c} reads {z} signs {d} tells {image'} puts {j} past same room w = go w.left w.lies w.held w.size w.stores
+  pub writes_one : offset < 4 + 5 * length vs → {c : Cell} → c ≡ cell_in m i → {z : ℤ} → z ≡ of_u c.datum → {τ : Ty} → τ ≡ type_told c.tag
+      → {image' : List ℕ} → image' ≡ put_at image offset (var_bytes (record { type = τ; init = z } ∷ [])) → {j : ℕ} → j ≡ behind m i
+      → {o : ℕ} → o ≡ offset + 5 → length image ≡ length image₀ → 4 + 5 * length vs ≤ length image₀ → Written m image₀ image vs i offset → Written m image₀ image' vs j o
+  writes_one some {c} reads {z} signs {τ} tells {image'} puts {j} past {o} further same room w = go w.left w.lies w.held w.size w.stores
     where
       go : (left : List Variable) → Lies m i (variable_cells left) → Held left → offset + 5 * length left ≡ 4 + 5 * length vs
           → sets image offset (var_bytes left) ≡ sets image₀ 4 (var_bytes vs)
-          → Written m image₀ image' vs j (offset + 5)
-      go [] l held size stores = absurd (one_left sees some l)
+          → Written m image₀ image' vs j o
+      go [] l held size stores = absurd (omega arith)
       go (v ∷ left) l held size stores =
           let is = reads ∙ first_cell v left l in
-          let f : declared d ≡ v.type = ap declared (tells ∙ ap (λ (c : Cell). eqb c.tag DINT) is) ∙ type_back v.type in
+          let f : τ ≡ v.type = tells ∙ ap (λ (c : Cell). type_told c.tag) is ∙ type_back v.type in
           let g : z ≡ v.init = signs ∙ ap (λ (c : Cell). of_u c.datum) is ∙ of_u-to_u v.init (held_small v.type v.init held.0) in
           let e : image' ≡ put_at image offset (var_bytes (v ∷ [])) = puts ∙ rw (f, g) in
-          let o = others v left past l in
+          let rest = others v left past l in
           let k = five v in
           let q = e ∙ sym (put_in image offset (var_bytes (v ∷ [])) (omega arith)).1 in
           let s = sets_append image offset (var_bytes (v ∷ [])) (var_bytes left) in
           record {
             left = left;
-            lies = o.1;
+            lies = rest.1;
             held = held.1;
             size = omega arith;
-            stores = rw (q, ← k) (s ∙ rw (bytes_then v left) stores);
+            stores = rw (q, further, ← k) (s ∙ rw (bytes_then v left) stores);
           }
 
   -- at the end all of them are
-  pub writes_all : tag ≡ FINISH → Written m image₀ image vs i offset → image ≡ sets image₀ 4 (var_bytes vs)
+  pub writes_all : offset ≡ 4 + 5 * length vs → Written m image₀ image vs i offset → image ≡ sets image₀ 4 (var_bytes vs)
   unfolding var_bytes
   writes_all e w =
-      let none = none_left sees e w.left w.lies in
-      subst (λ (x : List Variable). sets image offset (var_bytes x) ≡ sets image₀ 4 (var_bytes vs)) none w.stores
-
--- the offset stays small
-pub writes-few : {m image₀ image : List ℕ} {vs : List Variable} {i offset : ℕ} → Declared vs → 1000 ≤ offset → Written m image₀ image vs i offset → ⊥
-writes-few d far w = omega (arith, d.few, w.size)
+      let size = w.size in
+      subst (λ (x : List Variable). sets image offset (var_bytes x) ≡ sets image₀ 4 (var_bytes vs)) (empty w.left (omega arith)) w.stores

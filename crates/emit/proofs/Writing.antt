@@ -13,7 +13,7 @@ use Rattle.cells.specs.Reading.{behind, Lies}
 use Rattle.cells.specs.Laws.{lies_first, lies_rest, behind_cell}
 use Rattle.writing.specs.Puts.{fits}
 use Rattle.emit.specs.Places.{may_put, code_put, behind_put, Put, Wrote}
-use Rattle.emit.specs.declared.expressions.Place.{Place}
+use Rattle.emit.specs.Places.{Place}
 use Rattle.writing.proofs.Buffers.{sets_append}
 
 -- the bytes of an instruction are put where there is room

@@ -8,9 +8,9 @@ use Rattle.rules.specs.Translation.{code_s}
 use Rattle.rules.specs.CoreCells.{stmt_cells}
 use Rattle.theorems.specs.Fields.{FitS}
 use Rattle.theorems.specs.Levels.{fors_s, nest_s}
-use Rattle.cells.specs.declared.Cell.{Cell}
+use Rattle.cells.specs.declared.cell.Cell.{Cell}
 use Rattle.emit.specs.Places.{Wrote, Allows}
-use Rattle.emit.specs.declared.expressions.Place.{Place}
+use Rattle.emit.specs.Places.{Place}
 use Rattle.emit.specs.declared.statements.Around.{Around}
 
 -- a statement's first cell

@@ -1,3 +1,4 @@
+pub mod Codes
 pub mod Compounds
 pub mod Items
 pub mod Places

@@ -1,5 +1,5 @@
 -- What the functions that write code promise: past these cells of the core program, these bytes are put behind the code that was written, where there is room.
-use Rattle.std.specs.Prelude.{◌≡◌, Bool, ◌&&◌, [], ℕ, ◌+◌, ◌≤◌, leb, length}
+use Rattle.std.specs.Prelude.{◌≡◌, Bool, ◌&&◌, [], ℕ, ◌+◌, ◌≤◌, min, leb, length}
 use mathlib.Core.List as L
 use Rattle.std.proofs.lemmas.List.Edits.{sets}
 use Rattle.rules.specs.Base.{pick}
@@ -9,10 +9,25 @@ use Rattle.rules.specs.Translation.{code_e, code_lb, code_s, code_l, code_b, cod
 use Rattle.rules.specs.CoreCells.{held_cells, span_cells, stmt_cells, body_cells, brs_cells, grps_cells}
 use Rattle.theorems.specs.Fields.{FitE, FitLb, FitS, FitL, FitB, FitG}
 use Rattle.theorems.specs.Levels.{fors_s, fors_l, fors_b, fors_g, nest_s, nest_l, nest_b, nest_g}
-use Rattle.cells.specs.Reading.{Lies}
+use Rattle.cells.specs.Reading.{Lies, Moves}
 use Rattle.writing.specs.Puts.{fits}
-use Rattle.emit.specs.declared.expressions.Place.{Place}
+use Rattle.cells.specs.declared.reader.Reader.{Reader}
+use Rattle.emit.specs.declared.codes.Code.{Code}
 use Rattle.emit.specs.declared.statements.Around.{Around}
+
+-- where a part of the core program starts or ends, and where its code does
+pub record Place : Type 0 where
+  pub at : ℕ
+  pub code : ℕ
+
+abbrev pub place_of : Reader → Code → Place
+place_of from code = record { at = from.at; code = code.at }
+
+-- the core program stays as it is, a part of it is passed, and its code is put
+pub record Emits (P : L.List ℕ → L.List ℕ → L.List ℕ → Place → Place → Type 0) (from : Reader) (code : Code) (from' : Reader) (code' : Code) : Type 0 where
+  pub core : from'.memory.now ≡ from.memory.now
+  pub fine : Moves from.memory.now from.at from'.at
+  pub means : P from.memory.now code.bytes.now code'.bytes.now (place_of from code) (place_of from' code')
 
 -- an instruction is at most 16 bytes, and code starts at offsets up to 16384
 unfoldable pub may_put : L.List ℕ → ℕ → L.List ℕ → Bool
@@ -24,9 +39,13 @@ code_put code at bytes = pick (may_put code at bytes) (λ _. sets code at bytes)
 unfoldable pub behind_put : L.List ℕ → ℕ → L.List ℕ → ℕ
 behind_put code at bytes = pick (may_put code at bytes) (λ _. at + length bytes) (λ _. at)
 
--- a target: sums are exact as far as offsets go
-unfoldable pub sum : ℕ → ℕ → ℕ
-sum a b = pick (leb a 8388608 && leb b 8388608) (λ _. a + b) (λ _. 16777216)
+-- what putting these bytes leaves, and where the code ends then
+abbrev pub Writes : L.List ℕ → L.List ℕ → ℕ → L.List ℕ → ℕ → Type 0
+Writes code code' at bytes r = (r ≡ behind_put code at bytes) × (code' ≡ code_put code at bytes)
+
+-- a target so far ahead: exact as far as offsets go
+abbrev pub ahead : ℕ → ℕ → ℕ
+ahead at size = min (at + size) 4294967295
 
 -- bytes are put at an offset, within the most that code has
 pub record Put (bytes code code' : L.List ℕ) (at r : ℕ) : Type 0 where

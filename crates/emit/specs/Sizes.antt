@@ -8,8 +8,21 @@ use Rattle.rules.specs.Translation.{size_e, size_lb, size_s, size_l, size_b, siz
 use Rattle.rules.specs.Cells.{UNARY, BINARY}
 use Rattle.rules.specs.CoreCells.{held_cells, span_cells, stmt_cells, body_cells, brs_cells, grps_cells}
 use Rattle.theorems.specs.Levels.{nest_s, nest_l, nest_b, nest_g}
-use Rattle.cells.specs.Reading.{Lies}
-use Rattle.emit.specs.declared.sizes.Sized.{Sized}
+use Rattle.cells.specs.Reading.{Lies, Moves}
+use Rattle.cells.specs.declared.reader.Reader.{Reader}
+use Rattle.emit.specs.declared.sizes.Size.{Size}
+
+-- where a part ends, and the size of its code
+pub record Sized : Type 0 where
+  pub at : ℕ
+  pub size : ℕ
+
+abbrev pub sized_at : ℕ → ℕ → Sized
+sized_at at size = record { at = at; size = size }
+
+-- a part is passed, and the size of its code read; what lies there stays as it is
+abbrev pub Reads : (L.List ℕ → ℕ → Sized → Type 0) → Reader → Reader → Size → Type 0
+Reads P old new size = record { same : new.memory.now ≡ old.memory.now; fine : Moves old.memory.now old.at new.at; means : P old.memory.now old.at (sized_at new.at size.0) }
 
 unfoldable pub capped : ℕ → ℕ
 capped n = min n 100000

@@ -1,73 +1,32 @@
 // The code of expressions and labels.
 ghost use Rattle.std.specs.Prelude.{◌≡◌};
-ghost use Rattle.cells.specs.Reading.{Moves};
-ghost use Rattle.emit.specs.Items.{item_bytes};
-ghost use Rattle.emit.specs.Places.{Put, HeldCode, LabelsCode};
+ghost use Rattle.emit.specs.Places.{Emits, HeldCode, LabelsCode};
 
-use super::codes::{alone, constant, jump, span, with_slot};
-use cells::{Cell, behind, cell_at, is_item, tag_at};
+use super::codes::{Code, Op};
+use cells::Reader;
 use rules::Kind;
 
-// Where a part of the core program starts or ends, and where its code does.
-#[derive(Clone, Copy)]
-pub(crate) struct Place {
-    pub at: usize,
-    pub code: u32,
-}
+impl Code<'_> {
+    // An expression, and the cell that closes it. What the walks over an expression have in common is `next_item`.
+    pub fn held(&mut self, from: &mut Reader)
+        ensures same { self.new.bytes.ghost_name ≡ self.old.bytes.ghost_name }
+        ensures writes { Emits HeldCode from.old self.old from.new self.new }
+    {
+        while let Some(cell) = from.next_item() {
+            self.item(cell);
+        }
+        from.read();
+    }
 
-// The code of one cell: operands, then the operator; unary plus and parentheses give nothing.
-fn item(code: &mut [u8], cell: Cell, at: u32) -> u32
-    ensures { Put (item_bytes cell.tag cell.datum) code.old code.new at result }
-{
-    let tag = cell.tag;
-    let datum = cell.datum;
-    match tag {
-        Kind::INT | Kind::TRUE | Kind::FALSE => constant(code, at, datum),
-        Kind::NAME => with_slot(code, at, 3, datum),
-        Kind::BINARY => alone(code, at, datum),
-        Kind::UNARY => if datum == 0 {
-            at
-        } else {
-            alone(code, at, datum)
-        },
-        _ => at,
-    }
-}
-
-pub(crate) fn held(memory: &[u32], code: &mut [u8], p: Place) -> Place
-    ensures fine { Moves memory.now p.at result.at }
-    ensures means { HeldCode memory.now code.old code.new p result }
-{
-    let mut q = p;
-    while is_item(tag_at(memory, q.at)) {
-        let cell = cell_at(memory, q.at);
-        q = Place {
-            at: behind(memory, q.at),
-            code: item(code, cell, q.code),
-        };
-    }
-    Place {
-        at: behind(memory, q.at),
-        code: q.code,
-    }
-}
-
-// A SPAN and a jump to the body for each label.
-pub(crate) fn labels(memory: &[u32], code: &mut [u8], p: Place, body: u32) -> Place
-    ensures fine { Moves memory.now p.at result.at }
-    ensures means { LabelsCode body memory.now code.old code.new p result }
-{
-    let mut q = p;
-    while tag_at(memory, q.at) == Kind::COMMA {
-        let label = cell_at(memory, q.at);
-        let tested = span(code, q.code, label.place, label.datum);
-        q = Place {
-            at: behind(memory, q.at),
-            code: jump(code, tested, 24, body),
-        };
-    }
-    Place {
-        at: behind(memory, q.at),
-        code: q.code,
+    // A SPAN and a jump to the body for each label.
+    pub fn labels(&mut self, from: &mut Reader, body: u32)
+        ensures same { self.new.bytes.ghost_name ≡ self.old.bytes.ghost_name }
+        ensures writes { Emits (LabelsCode body) from.old self.old from.new self.new }
+    {
+        while let Some(label) = from.next_if(Kind::Comma) {
+            self.span(label.place, label.datum);
+            self.jump(Op::JumpNot, body);
+        }
+        from.read();
     }
 }

@@ -10,21 +10,16 @@ mod statements;
 ghost use Rattle.std.specs.Prelude.{◌≡◌, length};
 ghost use Rattle.rules.specs.Compile.{compile, buffer_after};
 ghost use Rattle.rules.specs.CoreCells.{walked};
-ghost use Rattle.rules.specs.Answers.{compiled_as};
+ghost use Rattle.rules.specs.Answers.{answer_of, compiled_as};
 
-use rules::{Compiled, Figured};
+use rules::{Compiled, Refusal};
 
 // The image at the front of the buffer, or the refusal, and then no byte of it is written. The core program stays in working memory as the walk left it.
-pub fn emit(text: &[u8], memory: &mut [u32], image: &mut [u8]) -> Compiled
-    ensures means { result ≡ compiled_as (compile (length memory.old) (length image.old) text.now) }
+pub fn emit(text: &[u8], memory: &mut [u32], image: &mut [u8]) -> Result<Compiled, Refusal>
+    ensures means { answer_of result ≡ compiled_as (compile (length memory.old) (length image.old) text.now) }
     ensures writes { image.new ≡ buffer_after (compile (length memory.old) (length image.old) text.now) image.old }
     ensures leaves { memory.new ≡ (walked text.now memory.old).memory }
 {
-    let stated = figures::figures(text, memory);
-    match stated {
-        Figured::Refused { number, place } => Compiled::Refused { number, place },
-        Figured::Figures { depth, worst } => {
-            records::finish(memory, image, text.len(), depth, worst)
-        }
-    }
+    let stated = figures::figures(text, memory)?;
+    records::finish(memory, image, text.len(), stated)
 }

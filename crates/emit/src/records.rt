@@ -1,116 +1,124 @@
 // The three records of an image, put one behind the other.
-ghost use Rattle.std.specs.Prelude.{◌+◌, ◌*◌, ◌≤◌, length};
-ghost use Rattle.emit.specs.Records.{VariablesMean, VariablesWritten, CodeWritten, ImageWritten, Finished};
+ghost use Rattle.std.specs.Prelude.{◌≡◌, ◌+◌, ◌*◌, ◌%◌, ◌≤◌, length};
+ghost use Rattle.rules.specs.Answers.{type_as};
+ghost use Rattle.emit.specs.Records.{type_told, VariablesMean, VariablesWritten, CodeWritten, ImageWritten, Finished};
 
-use super::codes::alone;
-use super::expressions::Place;
+use super::codes::{Code, Op};
 use super::sizes;
-use super::statements::{Around, list};
-use cells::{behind, cell_at, tag_at};
-use rules::{Compiled, Kind, Limits};
+use super::statements::Around;
+use cells::{Cell, Reader};
+use rules::{Compiled, Fault, Kind, Limits, Refusal, Stated, Type};
 
-// The variables of the core program: how many, and where the statements begin behind them.
-#[derive(Drop)]
-pub(crate) struct Variables {
-    pub at: usize,
+// The variables of the core program: how many, and the statements that lie behind them.
+#[derive(Clone, Copy)]
+pub(crate) struct Variables<'a> {
     pub count: usize,
+    pub body: Reader<'a>,
 }
 
-fn count_variables(memory: &[u32]) -> Variables
+// Whatever the numbers are, no more are counted than there can be: the sizes of the records rest on it.
+fn count_variables(memory: &[u32]) -> Variables<'_>
+    ensures core { result.body.memory.now ≡ memory.now }
     ensures few { result.count ≤ 64 }
-    ensures means { VariablesMean memory.now result }
+    ensures means { VariablesMean memory.now (record { at = result.body.at; count = result.count }) }
 {
-    let mut at = Limits::TOKEN_NUMBERS;
+    let mut from = Reader::new(memory, Limits::TOKEN_NUMBERS);
     let mut count: usize = 0;
-    while tag_at(memory, at) != Kind::FINISH {
-        at = behind(memory, at);
-        count = if count < Limits::VARIABLES {
-            count + 1
-        } else {
-            count
-        };
+    while let Some(_) = from.next_unless(Kind::Finish) {
+        count = (count + 1).min(Limits::VARIABLES);
     }
-    Variables {
-        at: behind(memory, at),
-        count,
-    }
+    from.read();
+    Variables { count, body: from }
 }
 
 // The variables, behind the head of the first record.
-fn put_variables(memory: &[u32], image: &mut [u8])
-    ensures { VariablesWritten memory.now image.old image.new }
+fn put_variables(count: usize, memory: &[u32], image: &mut [u8])
+    requires { count ≤ 64 }
+    ensures { VariablesWritten count memory.now image.old image.new }
 {
-    let mut at = Limits::TOKEN_NUMBERS;
-    let mut offset: usize = 4;
-    while tag_at(memory, at) != Kind::FINISH {
-        let variable = cell_at(memory, at);
-        let is_dint = variable.tag == Kind::DINT;
-        writing::put_variable(image, offset, is_dint, octets::signed(variable.datum));
-        at = behind(memory, at);
-        offset = if offset < 1000 { offset + 5 } else { offset };
+    let mut from = Reader::new(memory, Limits::TOKEN_NUMBERS);
+    for k in 0..count {
+        let variable = from.read();
+        let kind = type_of(variable);
+        writing::put_variable(image, 4 + 5 * k, kind, octets::signed(variable.datum));
+    }
+}
+
+// The type that a variable's cell tells.
+#[tactic(auto, unfolding(crate::specs::Records::type_told))]
+fn type_of(variable: Cell) -> Type
+    ensures { type_as result ≡ type_told variable.tag }
+{
+    if variable.is(Kind::Dint) {
+        Type::Dint
+    } else {
+        Type::Bool
     }
 }
 
 // The code: the statements', then HALT, to which EXIT outside every loop would lead.
-fn put_code(memory: &[u32], code: &mut [u8], at: usize, size: u32)
-    ensures { CodeWritten memory.now code.old code.new at size }
+fn put_code(mut from: Reader, bytes: &mut [u8], size: u32)
+    ensures { CodeWritten from.entry.memory.now bytes.old bytes.new from.entry.at size }
 {
-    let start = Place { at, code: 0 };
     let around = Around {
         exit: size,
         fors: 0,
         levels: 16,
     };
-    let end = list(memory, code, start, around);
-    alone(code, end.code, 29);
+    let mut code = Code::new(bytes);
+    code.list(&mut from, around);
+    code.alone(Op::Halt);
 }
 
 // All three records, where there is room for them. The size is that of the code without HALT.
-fn put_image(memory: &[u32], image: &mut [u8], v: Variables, size: u32, depth: u16, worst: u32)
-    requires { (v.count ≤ 64) × (size ≤ 8191) × (19 + 5 * v.count + size ≤ length image.old) }
-    ensures { ImageWritten v size depth worst memory.now image.old image.new }
+fn put_image(variables: Variables, image: &mut [u8], size: u32, stated: Stated)
+    requires { (variables.count ≤ 64) × (size ≤ 8191) × (19 + 5 * variables.count + size ≤ length image.old) }
+    ensures { ImageWritten (record { at = variables.entry.body.at; count = variables.entry.count }) size (stated.depth % 65536) stated.worst variables.entry.body.memory.now image.old image.new }
 {
-    let bytes = 5 * v.count;
+    let bytes = 5 * variables.count;
     let code = (size as usize) + 1;
     writing::put_head(image, 0, 1, bytes as u16);
-    put_variables(memory, image);
+    put_variables(variables.count, variables.body.memory, image);
     writing::put_head(image, 4 + bytes, 2, code as u16);
-    put_code(memory, &mut image[8 + bytes..], v.at, size);
+    put_code(variables.body, &mut image[8 + bytes..], size);
     writing::put_head(image, 8 + bytes + code, 3, 6);
-    writing::put_figures(image, 12 + bytes + code, depth, worst);
+    let depth = (stated.depth % 65536) as u16;
+    writing::put_figures(image, 12 + bytes + code, depth, stated.worst);
 }
+
+// The longest code without HALT.
+const LONGEST: u32 = 8191;
 
 // What is left to ask of a core program: 13 for its code, 14 for the room; then its image is written.
 pub(crate) fn finish(
     memory: &[u32],
     image: &mut [u8],
     end: usize,
-    depth: u32,
-    worst: u32,
-) -> Compiled
-    ensures { Finished memory.now end depth worst image.old image.new result }
+    stated: Stated,
+) -> Result<Compiled, Refusal>
+    ensures { Finished memory.now end stated.depth stated.worst image.old image.new result }
 {
-    let v = count_variables(memory);
-    let sized = sizes::list(memory, v.at, 16);
-    let size = sized.size;
-    if 8191 < size {
-        return Compiled::Refused {
-            number: 13,
+    let variables = count_variables(memory);
+    let mut further = variables.body;
+    let size = sizes::list(&mut further, 16).0;
+    if LONGEST < size {
+        return Err(Refusal {
+            fault: Fault::LongCode,
             place: end,
-        };
+        });
     }
-    let total = 19 + 5 * v.count + (size as usize);
+    let total = 19 + 5 * variables.count + (size as usize);
     if image.len() < total {
-        return Compiled::Refused {
-            number: 14,
+        return Err(Refusal {
+            fault: Fault::ShortBuffer,
             place: end,
-        };
+        });
     }
-    put_image(memory, image, v, size, (depth % 65536) as u16, worst);
-    Compiled::Accepted {
+    put_image(variables, image, size, stated);
+    Ok(Compiled {
         image: total,
         code: (size as usize) + 1,
-        depth,
-        worst,
-    }
+        depth: stated.depth,
+        worst: stated.worst,
+    })
 }

@@ -1,13 +1,11 @@
 // The code of statements, appended; targets are computed from sizes, and nothing is changed afterwards.
 ghost use Rattle.std.specs.Prelude.{◌≡◌};
-ghost use Rattle.cells.specs.Reading.{Moves};
-ghost use Rattle.emit.specs.Places.{sum, StatementCode, ListCode, BranchesCode, GroupsCode};
+ghost use Rattle.emit.specs.Places.{Emits, StatementCode, ListCode, BranchesCode, GroupsCode};
 ghost use Rattle.emit.specs.Compounds.{ForCode, WhileCode, RepeatCode, CompoundCode};
 
-use super::codes::{alone, jump, turn, with_slot};
-use super::expressions::{Place, held, labels};
-use super::sizes;
-use cells::{Cell, behind, cell_at, is_label, tag_at};
+use super::codes::{Code, Op, Turn};
+use super::sizes::{self, Size};
+use cells::{Cell, Reader};
 use rules::Kind;
 
 // What a statement's code needs to know of what is around: where EXIT leads, the enclosing FORs, and how many levels of nesting may still come.
@@ -18,252 +16,170 @@ pub(crate) struct Around {
     pub levels: u32,
 }
 
-// A target: offsets stay below 8192, and sums are not counted beyond 16777216.
-fn sum(a: u32, b: u32) -> u32
-    ensures { result ≡ sum a b }
-{
-    if 8388608 < a {
-        return 16777216;
-    }
-    if 8388608 < b {
-        return 16777216;
-    }
-    a + b
-}
-
-// IF's branches: JZ past each list, and JUMP to the end behind every list that another branch or ELSE follows.
-#[cycle(branches_compound_for_loop_groups_list_repeat_loop_statement_while_loop)]
-fn branches(memory: &[u32], code: &mut [u8], p: Place, end: u32, around: Around) -> Place
-    ensures fine { Moves memory.now p.at result.at }
-    ensures means { BranchesCode end around memory.now code.old code.new p result }
-{
-    let mut q = p;
-    while tag_at(memory, q.at) == Kind::THEN {
-        let start = Place {
-            at: behind(memory, q.at),
-            code: q.code,
-        };
-        let condition = held(memory, code, start);
-        let size = sizes::list(memory, condition.at, around.levels);
-        let leap = sizes::jump_size(memory, size.at);
-        let other = sum(sum(condition.code, 3), sum(size.size, leap));
-        let tested = Place {
-            at: condition.at,
-            code: jump(code, condition.code, 22, other),
-        };
-        let body = list(memory, code, tested, around);
-        q = Place {
-            at: body.at,
-            code: if leap == 3 {
-                jump(code, body.code, 21, end)
-            } else {
-                body.code
-            },
-        };
-    }
-    let next = Place {
-        at: behind(memory, q.at),
-        code: q.code,
-    };
-    if tag_at(memory, q.at) == Kind::ELSE {
-        return list(memory, code, next, around);
-    }
-    next
-}
-
-// CASE's groups: the tests of a group, a jump past its list, the list, and a jump to the end; then ELSE's list.
-#[cycle(branches_compound_for_loop_groups_list_repeat_loop_statement_while_loop)]
-fn groups(memory: &[u32], code: &mut [u8], p: Place, end: u32, around: Around) -> Place
-    ensures fine { Moves memory.now p.at result.at }
-    ensures means { GroupsCode end around memory.now code.old code.new p result }
-{
-    let mut q = p;
-    while is_label(tag_at(memory, q.at)) {
-        let tests = sizes::labels(memory, q.at);
-        let body = sum(sum(q.code, tests.size), 3);
-        let tested = labels(memory, code, q, body);
-        let size = sizes::list(memory, tested.at, around.levels);
-        let leapt = jump(code, tested.code, 21, sum(body, sum(size.size, 4)));
-        let start = Place {
-            at: tested.at,
-            code: alone(code, leapt, 25),
-        };
-        let done = list(memory, code, start, around);
-        q = Place {
-            at: done.at,
-            code: jump(code, done.code, 21, end),
-        };
-    }
-    let start = Place {
-        at: q.at,
-        code: alone(code, q.code, 25),
-    };
-    list(memory, code, start, around)
-}
-
-// FOR: the bounds, the held final value, the first test; at each pass a tick, the list, and the step.
-#[cycle(branches_compound_for_loop_groups_list_repeat_loop_statement_while_loop)]
-fn for_loop(memory: &[u32], code: &mut [u8], slot: u32, p: Place, around: Around) -> Place
-    ensures fine { Moves memory.now p.at result.at }
-    ensures means { ForCode slot around memory.now code.old code.new p result }
-{
-    let initial = held(memory, code, p);
-    let last = held(memory, code, initial);
-    let by = cell_at(memory, last.at);
-    let next = behind(memory, last.at);
-    let size = sizes::list(memory, next, around.levels);
-    let top = sum(last.code, 13);
-    let end = sum(sum(top, size.size), 10);
-    let kept = with_slot(code, last.code, 26, around.fors);
-    let stored = with_slot(code, kept, 4, slot);
-    let tested = turn(code, stored, 27, around.fors, slot, by.datum, end);
-    let start = Place {
-        at: next,
-        code: alone(code, tested, 1),
-    };
-    let inner = Around {
-        exit: end,
-        fors: sum(around.fors, 1),
-        levels: around.levels,
-    };
-    let body = list(memory, code, start, inner);
-    Place {
-        at: body.at,
-        code: turn(code, body.code, 28, around.fors, slot, by.datum, top),
-    }
-}
-
-// WHILE: the condition, JZ past the list, the list, and back to the start.
-#[cycle(branches_compound_for_loop_groups_list_repeat_loop_statement_while_loop)]
-fn while_loop(memory: &[u32], code: &mut [u8], start: u32, p: Place, around: Around) -> Place
-    ensures fine { Moves memory.now p.at result.at }
-    ensures means { WhileCode start around memory.now code.old code.new p result }
-{
-    let condition = held(memory, code, p);
-    let size = sizes::list(memory, condition.at, around.levels);
-    let end = sum(sum(condition.code, size.size), 6);
-    let tested = Place {
-        at: condition.at,
-        code: jump(code, condition.code, 22, end),
-    };
-    let inner = Around {
-        exit: end,
-        fors: around.fors,
-        levels: around.levels,
-    };
-    let body = list(memory, code, tested, inner);
-    Place {
-        at: body.at,
-        code: jump(code, body.code, 21, start),
-    }
-}
-
-// REPEAT: the list, the condition, and back to the start while it is FALSE.
-#[cycle(branches_compound_for_loop_groups_list_repeat_loop_statement_while_loop)]
-fn repeat_loop(memory: &[u32], code: &mut [u8], start: u32, p: Place, around: Around) -> Place
-    ensures fine { Moves memory.now p.at result.at }
-    ensures means { RepeatCode start around memory.now code.old code.new p result }
-{
-    let size = sizes::list(memory, p.at, around.levels);
-    let test = sizes::held(memory, size.at);
-    let inner = Around {
-        exit: sum(sum(p.code, size.size), sum(test.size, 3)),
-        fors: around.fors,
-        levels: around.levels,
-    };
-    let body = list(memory, code, p, inner);
-    let condition = held(memory, code, body);
-    Place {
-        at: condition.at,
-        code: jump(code, condition.code, 22, start),
-    }
-}
-
-// IF, CASE and loops behind their first cell and their tick; the statement's code starts at `start`.
-#[cycle(branches_compound_for_loop_groups_list_repeat_loop_statement_while_loop)]
-fn compound(
-    memory: &[u32],
-    code: &mut [u8],
-    head: Cell,
-    start: u32,
-    p: Place,
-    around: Around,
-) -> Place
-    ensures fine { Moves memory.now p.at result.at }
-    ensures means { CompoundCode head start around memory.now code.old code.new p result }
-{
-    let tag = head.tag;
-    match tag {
-        Kind::IF => {
-            let size = sizes::branches(memory, p.at, around.levels);
-            branches(memory, code, p, sum(p.code, size.size), around)
-        }
-        Kind::CASE => {
-            let selector = held(memory, code, p);
-            let size = sizes::groups(memory, selector.at, around.levels);
-            groups(
-                memory,
-                code,
-                selector,
-                sum(selector.code, size.size),
-                around,
-            )
-        }
-        Kind::FOR => for_loop(memory, code, head.datum, p, around),
-        Kind::WHILE => while_loop(memory, code, start, p, around),
-        _ => repeat_loop(memory, code, start, p, around),
-    }
-}
-
-// A statement: a tick, then what it does. One level of nesting fewer is left within a compound one.
-#[cycle(branches_compound_for_loop_groups_list_repeat_loop_statement_while_loop)]
-fn statement(memory: &[u32], code: &mut [u8], p: Place, around: Around) -> Place
-    ensures fine { Moves memory.now p.at result.at }
-    ensures means { StatementCode around memory.now code.old code.new p result }
-{
-    let head = cell_at(memory, p.at);
-    let q = Place {
-        at: behind(memory, p.at),
-        code: alone(code, p.code, 1),
-    };
-    let tag = head.tag;
-    match tag {
-        Kind::ASSIGN => {
-            let value = held(memory, code, q);
-            Place {
-                at: value.at,
-                code: with_slot(code, value.code, 4, head.datum),
+impl Code<'_> {
+    // IF's branches: JZ past each list, and JUMP to the end behind every list that another branch or ELSE follows.
+    #[cycle(branches_compound_for_loop_groups_list_repeat_loop_statement_while_loop)]
+    fn branches(&mut self, from: &mut Reader, end: u32, around: Around)
+        ensures same { self.new.bytes.ghost_name ≡ self.old.bytes.ghost_name }
+        ensures writes { Emits (BranchesCode end around) from.old self.old from.new self.new }
+    {
+        while let Some(_) = from.next_if(Kind::Then) {
+            self.held(from);
+            let mut further = *from;
+            let size = sizes::list(&mut further, around.levels);
+            let leap = sizes::jump_size(&further);
+            let other = self.ahead(Size(3) + size + leap);
+            self.jump(Op::JumpZero, other);
+            self.list(from, around);
+            if leap.0 == 3 {
+                self.jump(Op::Jump, end);
             }
         }
-        Kind::EXIT => Place {
-            at: q.at,
-            code: jump(code, q.code, 21, around.exit),
-        },
-        _ => {
-            if around.levels == 0 {
-                return q;
+        if from.read().is(Kind::Else) {
+            self.list(from, around);
+        }
+    }
+
+    // CASE's groups: the tests of a group, a jump past its list, the list, and a jump to the end; then ELSE's list.
+    #[cycle(branches_compound_for_loop_groups_list_repeat_loop_statement_while_loop)]
+    fn groups(&mut self, from: &mut Reader, end: u32, around: Around)
+        ensures same { self.new.bytes.ghost_name ≡ self.old.bytes.ghost_name }
+        ensures writes { Emits (GroupsCode end around) from.old self.old from.new self.new }
+    {
+        while from.cell().is_label() {
+            let mut further = *from;
+            let tests = sizes::labels(&mut further);
+            let body = self.ahead(tests + Size(3));
+            self.labels(from, body);
+            let mut further = *from;
+            let size = sizes::list(&mut further, around.levels);
+            let other = self.ahead(size + Size(7));
+            self.jump(Op::Jump, other);
+            self.alone(Op::Drop);
+            self.list(from, around);
+            self.jump(Op::Jump, end);
+        }
+        self.alone(Op::Drop);
+        self.list(from, around);
+    }
+
+    // FOR: the bounds, the held final value, the first test; at each pass a tick, the list, and the step.
+    #[cycle(branches_compound_for_loop_groups_list_repeat_loop_statement_while_loop)]
+    fn for_loop(&mut self, from: &mut Reader, slot: u32, around: Around)
+        ensures same { self.new.bytes.ghost_name ≡ self.old.bytes.ghost_name }
+        ensures writes { Emits (ForCode slot around) from.old self.old from.new self.new }
+    {
+        self.held(from);
+        self.held(from);
+        let by = from.read();
+        let turn = Turn {
+            level: around.fors,
+            slot,
+            step: by.datum,
+        };
+        let mut further = *from;
+        let size = sizes::list(&mut further, around.levels);
+        let top = self.ahead(Size(13));
+        let end = self.ahead(size + Size(23));
+        self.with_slot(Op::Hold, around.fors);
+        self.with_slot(Op::Store, slot);
+        self.turn(Op::First, turn, end);
+        self.alone(Op::Tick);
+        let inner = Around {
+            exit: end,
+            fors: around.fors.saturating_add(1),
+            ..around
+        };
+        self.list(from, inner);
+        self.turn(Op::Next, turn, top);
+    }
+
+    // WHILE: the condition, JZ past the list, the list, and back to the start.
+    #[cycle(branches_compound_for_loop_groups_list_repeat_loop_statement_while_loop)]
+    fn while_loop(&mut self, from: &mut Reader, start: u32, around: Around)
+        ensures same { self.new.bytes.ghost_name ≡ self.old.bytes.ghost_name }
+        ensures writes { Emits (WhileCode start around) from.old self.old from.new self.new }
+    {
+        self.held(from);
+        let mut further = *from;
+        let size = sizes::list(&mut further, around.levels);
+        let exit = self.ahead(size + Size(6));
+        self.jump(Op::JumpZero, exit);
+        self.list(from, Around { exit, ..around });
+        self.jump(Op::Jump, start);
+    }
+
+    // REPEAT: the list, the condition, and back to the start while it is FALSE.
+    #[cycle(branches_compound_for_loop_groups_list_repeat_loop_statement_while_loop)]
+    fn repeat_loop(&mut self, from: &mut Reader, start: u32, around: Around)
+        ensures same { self.new.bytes.ghost_name ≡ self.old.bytes.ghost_name }
+        ensures writes { Emits (RepeatCode start around) from.old self.old from.new self.new }
+    {
+        let mut further = *from;
+        let size = sizes::list(&mut further, around.levels);
+        let test = sizes::held(&mut further);
+        let exit = self.ahead(size + test + Size(3));
+        self.list(from, Around { exit, ..around });
+        self.held(from);
+        self.jump(Op::JumpZero, start);
+    }
+
+    // IF, CASE and loops behind their first cell and their tick; the statement's code starts at `start`.
+    #[cycle(branches_compound_for_loop_groups_list_repeat_loop_statement_while_loop)]
+    fn compound(&mut self, from: &mut Reader, head: Cell, start: u32, around: Around)
+        ensures same { self.new.bytes.ghost_name ≡ self.old.bytes.ghost_name }
+        ensures writes { Emits (CompoundCode head start around) from.old self.old from.new self.new }
+    {
+        match head.kind().unwrap_or(Kind::Repeat) {
+            Kind::If => {
+                let mut further = *from;
+                let size = sizes::branches(&mut further, around.levels);
+                let end = self.ahead(size);
+                self.branches(from, end, around)
             }
+            Kind::Case => {
+                self.held(from);
+                let mut further = *from;
+                let size = sizes::groups(&mut further, around.levels);
+                let end = self.ahead(size);
+                self.groups(from, end, around)
+            }
+            Kind::For => self.for_loop(from, head.datum, around),
+            Kind::While => self.while_loop(from, start, around),
+            _ => self.repeat_loop(from, start, around),
+        }
+    }
+
+    // A statement: a tick, then what it does. One level of nesting fewer is left within a compound one.
+    #[cycle(branches_compound_for_loop_groups_list_repeat_loop_statement_while_loop)]
+    fn statement(&mut self, from: &mut Reader, around: Around)
+        ensures same { self.new.bytes.ghost_name ≡ self.old.bytes.ghost_name }
+        ensures writes { Emits (StatementCode around) from.old self.old from.new self.new }
+    {
+        let start = self.at;
+        let head = from.read();
+        self.alone(Op::Tick);
+        if head.is(Kind::Assign) {
+            self.held(from);
+            self.with_slot(Op::Store, head.datum)
+        } else if head.is(Kind::Exit) {
+            self.jump(Op::Jump, around.exit)
+        } else if 0 < around.levels {
             let inner = Around {
-                exit: around.exit,
-                fors: around.fors,
                 levels: around.levels - 1,
+                ..around
             };
-            compound(memory, code, head, p.code, q, inner)
+            self.compound(from, head, start, inner)
         }
     }
-}
 
-#[cycle(branches_compound_for_loop_groups_list_repeat_loop_statement_while_loop)]
-pub(crate) fn list(memory: &[u32], code: &mut [u8], p: Place, around: Around) -> Place
-    ensures fine { Moves memory.now p.at result.at }
-    ensures means { ListCode around memory.now code.old code.new p result }
-{
-    let mut q = p;
-    while tag_at(memory, q.at) != Kind::FINISH {
-        q = statement(memory, code, q, around);
-    }
-    Place {
-        at: behind(memory, q.at),
-        code: q.code,
+    #[cycle(branches_compound_for_loop_groups_list_repeat_loop_statement_while_loop)]
+    pub fn list(&mut self, from: &mut Reader, around: Around)
+        ensures same { self.new.bytes.ghost_name ≡ self.old.bytes.ghost_name }
+        ensures writes { Emits (ListCode around) from.old self.old from.new self.new }
+    {
+        while from.next_if(Kind::Finish).is_none() {
+            self.statement(from, around);
+        }
     }
 }

@@ -1,106 +1,82 @@
--- Expressions, labels and variables are runs of cells, each closed by a cell of its own. Assumes nothing.
+-- Expressions, labels and variables are cells up to one that closes them, and so read past that one. Assumes nothing.
 use mathlib.Core.Path.{◌≡◌, refl, ap}
 use mathlib.Core.Bool.{true, false}
 use mathlib.Core.List as L
 use mathlib.Core.List.{[], ◌∷◌, ◌++◌}
 use Prim.Native.Nat.{ℕ, ◌+◌}
-use native.Mathlib.Omega.{arith}
+use Rattle.std.proofs.Common.{eqb}
 use lib.ListN.{length}
 use Rattle.rules.specs.Numbers.{Ty, bool, dint}
 use Rattle.rules.specs.Bytes.{to_u}
 use Rattle.rules.specs.Kinds.{FINISH, COLON, COMMA}
-use Rattle.rules.specs.Limits.{token_numbers}
 use Rattle.rules.specs.Cells.{cell, end_cell, truth_kind, type_kind, WHOLE}
 use Rattle.rules.specs.Core.{Expr, num, flag, var, un, bin, pls, par, Labels, lnil, lab, Variable}
 use Rattle.rules.specs.CoreCells.{expr_cells, held_cells, span_cells, variable_cell, variable_cells}
-use Rattle.rules.specs.Depth.{height}
-use Rattle.cells.specs.Reading.{is_item, Lies}
-use Rattle.figures.proofs.Skipping.{Run, none, next, runs_on, Closed, Ahead, from_start}
+use Rattle.cells.specs.Reading.{Lies}
+use Rattle.cells.specs.Runs.{Without, none, next, without_both, Reads, reads_closing}
+use Rattle.cells.specs.declared.cell.Cell.{Cell}
+use Rattle.figures.specs.Parts.{HeldMeans}
+
+-- such cells, and the one that closes them
+record Closed (tag datum : ℕ) (xs : L.List ℕ) : Type 0 where
+  pub run : L.List ℕ
+  pub without : Without tag run
+  pub is : xs ≡ run ++ cell tag 0 datum
+
+-- what is read past that one
+past : {m : L.List ℕ} {i tag datum j : ℕ} {c : Cell} {xs : L.List ℕ} → Reads m tag i c j → Closed tag datum xs → Lies m i xs → (j ≡ i + length xs) × (c.datum ≡ datum)
+past {datum = d} reads k y =
+    let r = reads_closing reads k.run 0 d k.without (rw k.is at y) in
+    (rw k.is r.1, ap (λ x. x.datum) r.0)
 
 -- Expressions
 
--- a tag of an expression's cell, not the closing one's
-abbrev pub Item : ℕ → Type 0
-Item t = is_item t ≡ true
+-- no cell of an expression is the closing one
+pub expr_run : (e : Expr) → Without WHOLE (expr_cells e)
+unfolding expr_cells cell truth_kind
+expr_run (num z) = next refl none
+expr_run (flag true) = next refl none
+expr_run (flag false) = next refl none
+expr_run (var i) = next refl none
+expr_run (un ι o a) = without_both (expr_run a) (next refl none)
+expr_run (bin ι o a b) = without_both (without_both (expr_run a) (expr_run b)) (next refl none)
+expr_run (pls a) = without_both (expr_run a) (next refl none)
+expr_run (par a) = without_both (expr_run a) (next refl none)
 
--- all cells of an expression are its items
-pub expr-run : (e : Expr) → Run Item (expr_cells e)
-unfolding expr_cells cell truth_kind is_item
-expr-run (num z) = next refl none
-expr-run (flag true) = next refl none
-expr-run (flag false) = next refl none
-expr-run (var i) = next refl none
-expr-run (un ι o a) = runs_on (expr-run a) (next refl none)
-expr-run (bin ι o a b) = runs_on (runs_on (expr-run a) (expr-run b)) (next refl none)
-expr-run (pls a) = runs_on (expr-run a) (next refl none)
-expr-run (par a) = runs_on (expr-run a) (next refl none)
-
--- the closing cell is none
-pub whole_is_no_item : Item WHOLE → ⊥
-unfolding is_item
-whole_is_no_item e = let z : ◌≡◌ {A = ℕ} 0 1 = cc in omega arith
-
--- and where an item is read, a cell lies
-pub item-has-tag : (t : ℕ) → Item t → t ≡ 0 → ⊥
-unfolding is_item
-item-has-tag t i e = let z : ◌≡◌ {A = ℕ} 0 1 = cc (rw e at i) in omega arith
-
--- the loop is at i: whatever expression lies at the start, its rest is ahead
-abbrev pub HeldAhead : L.List ℕ → ℕ → ℕ → Type 0
-HeldAhead m at i = (more : ℕ) (e : Expr) → Lies m at (held_cells more e) → Ahead Item m i WHOLE 0 (height e + more) (at + length (held_cells more e))
-
-pub held_start : {m : L.List ℕ} {at : ℕ} → HeldAhead m at at
+pub past_whole : {m : L.List ℕ} {i j : ℕ} {c : Cell} → Reads m WHOLE i c j → HeldMeans m i (record { at = j; depth = c.datum })
 unfolding held_cells
-held_start more e y = from_start (record { run = expr_cells e; goes = expr-run e; is = refl }) y
+past_whole reads more e y = past reads (record { run = expr_cells e; without = expr_run e; is = refl }) y
 
 -- Labels
 
--- a label's tag, not the closing one's
-abbrev pub Label : ℕ → Type 0
-Label t = t ≡ COMMA
-
-pub colon_is_no_label : Label COLON → ⊥
-colon_is_no_label e = omega arith
-
--- labels are such cells up to the colon
-span-closed : (ls : Labels) → Closed Label COLON 0 0 (span_cells ls)
+span_closed : (ls : Labels) → Closed COLON 0 (span_cells ls)
 unfolding span_cells cell
-span-closed lnil = record { run = []; goes = none; is = refl }
-span-closed (lab low high ls) =
-    let k = span-closed ls in
-    record { run = _; goes = next refl k.goes; is = ap (λ xs. cell COMMA (to_u low) (to_u high) ++ xs) k.is }
+span_closed lnil = record { run = []; without = none; is = refl }
+span_closed (lab low high ls) =
+    let k = span_closed ls in
+    record { run = _; without = next refl k.without; is = ap (λ xs. cell COMMA (to_u low) (to_u high) ++ xs) k.is }
 
--- the loop is at i: whatever labels lie at the start, the rest of them is ahead
-abbrev pub SpansAhead : L.List ℕ → ℕ → ℕ → Type 0
-SpansAhead m at i = (ls : Labels) → Lies m at (span_cells ls) → Ahead Label m i COLON 0 0 (at + length (span_cells ls))
+abbrev pub SpansMean : L.List ℕ → ℕ → ℕ → Type 0
+SpansMean m at r = (ls : Labels) → Lies m at (span_cells ls) → r ≡ at + length (span_cells ls)
 
-pub spans_start : {m : L.List ℕ} {at : ℕ} → SpansAhead m at at
-spans_start ls y = from_start (span-closed ls) y
+pub past_labels : {m : L.List ℕ} {i j : ℕ} {c : Cell} → Reads m COLON i c j → SpansMean m i j
+past_labels reads ls y = (past reads (span_closed ls) y).0
 
 -- Variables
 
--- a variable's tag is its type, and not the end
-abbrev pub Declared : ℕ → Type 0
-Declared t = t ≡ FINISH → ⊥
-
-pub end_is_no_variable : Declared FINISH → ⊥
-end_is_no_variable h = h refl
-
--- variables are such cells up to the end
-variables-closed : (vs : L.List Variable) → Closed Declared FINISH 0 0 (variable_cells vs)
+variables_closed : (vs : L.List Variable) → Closed FINISH 0 (variable_cells vs)
 unfolding variable_cells variable_cell end_cell cell type_kind
-variables-closed [] = record { run = []; goes = none; is = refl }
-variables-closed (v ∷ vs) =
-    let k = variables-closed vs in
-    record { run = _; goes = next (declared v.type) k.goes; is = ap (λ xs. variable_cell v ++ xs) k.is }
+variables_closed [] = record { run = []; without = none; is = refl }
+variables_closed (v ∷ vs) =
+    let k = variables_closed vs in
+    record { run = _; without = next (declared v.type) k.without; is = ap (λ xs. variable_cell v ++ xs) k.is }
   where
-    declared : (t : Ty) → Declared (type_kind t)
-    declared bool = λ e. omega arith
-    declared dint = λ e. omega arith
+    declared : (t : Ty) → eqb (type_kind t) FINISH ≡ false
+    declared bool = refl
+    declared dint = refl
 
--- the loop is at i: whatever variables lie at the start, the rest of them is ahead
-abbrev pub VariablesAhead : L.List ℕ → ℕ → Type 0
-VariablesAhead m i = (vs : L.List Variable) → Lies m token_numbers (variable_cells vs) → Ahead Declared m i FINISH 0 0 (token_numbers + length (variable_cells vs))
+abbrev pub VariablesMean : L.List ℕ → ℕ → ℕ → Type 0
+VariablesMean m i r = (vs : L.List Variable) → Lies m i (variable_cells vs) → r ≡ i + length (variable_cells vs)
 
-pub variables_start : {m : L.List ℕ} → VariablesAhead m token_numbers
-variables_start vs y = from_start (variables-closed vs) y
+pub past_variables : {m : L.List ℕ} {i j : ℕ} {c : Cell} → Reads m FINISH i c j → VariablesMean m i j
+past_variables reads vs y = (past reads (variables_closed vs) y).0

@@ -6,6 +6,7 @@ use Prim.Native.Nat.{ℕ, suc, ◌+◌, ◌≤◌, max}
 use native.Mathlib.Omega.{arith}
 use lib.IntN.{ℤ}
 use lib.ListN.{length, length-append}
+use Rattle.std.specs.Prelude.{Option}
 use Rattle.rules.specs.Bytes.{to_u}
 use Rattle.rules.specs.Limits.{unbounded_mark}
 use Rattle.rules.specs.Core.{Expr, Stmt, List, for}
@@ -21,18 +22,15 @@ use Rattle.ticks.specs.Bounds.{bound_of, cut}
 use Rattle.ticks.specs.Laws.{add_cut, for_cut}
 use Rattle.cells.specs.Reading.{cell_in, behind, Lies}
 use Rattle.cells.specs.Laws.{lies_first}
-use Rattle.cells.specs.declared.Cell.{Cell}
-use Rattle.figures.specs.Parts.{shown, lit_in, HeldMeans, LiteralMeans, LoopMeans, ListMeans, BranchesMean, GroupsMean, ForMeans}
-use Rattle.figures.specs.declared.sums.Figures.{Figures}
-use Rattle.figures.specs.declared.expressions.Ending.{Ending}
-use Rattle.figures.specs.declared.expressions.Integer.{Integer}
+use Rattle.cells.specs.declared.cell.Cell.{Cell}
+use Rattle.figures.specs.Parts.{Part, Ending, shown, lit_in, HeldMeans, LiteralMeans, LoopMeans, ListMeans, BranchesMean, GroupsMean, ForMeans}
 use Rattle.figures.proofs.Heads.{head, tail}
 use Rattle.figures.proofs.Tags.{Tagged, assigned, branched, chosen, counted, tested, repeated, left}
 use Rattle.figures.proofs.Following.{past_held, past_list, conditional_list}
 use Rattle.figures.proofs.Whole.{alike}
 
 -- r is what a statement that lies at `at` shows
-abbrev pub Shown : ℕ → Figures → Stmt → Type 0
+abbrev pub Shown : ℕ → Part → Stmt → Type 0
 Shown at r x = r ≡ shown (at + length (stmt_cells x)) (depth_s x) (worst_s x)
 
 -- Which kinds are nested
@@ -60,7 +58,7 @@ only_repeat repeated n f g h k = repeated
 only_repeat left n f g h k = absurd (omega arith)
 
 module _ {m : L.List ℕ} {at j : ℕ} (p : j ≡ behind m at) where
-  pub assign_is : {x : Stmt} {s : Ending} → Tagged x ASSIGN → HeldMeans m j s → Lies m at (stmt_cells x) → Shown at (record { at = s.at; depth = s.depth; worst = 1 }) x
+  pub assign_is : {x : Stmt} {s : Ending} → Tagged x ASSIGN → HeldMeans m j s → Lies m at (stmt_cells x) → Shown at (record { at = s.at; depth = max s.depth 0; worst = 1 }) x
   unfolding stmt_cells cell depth_s worst_s cut
   assign_is (assigned {i} {e}) held y =
       let b = tail p y in
@@ -72,17 +70,18 @@ module _ {m : L.List ℕ} {at j : ℕ} (p : j ≡ behind m at) where
   exit_is left y = alike (tail p y).0 refl refl
 
   module _ {levels : ℕ} where
-    pub if_is : {x : Stmt} {g : Figures} {w : ℕ} → Tagged x IF → BranchesMean m j levels g → w ≡ cut (add_w (bound_of 1) (bound_of g.worst))
-        → Lies m at (stmt_cells x) → nest_s x ≤ suc levels → FitS x → Shown at (record { at = g.at; depth = g.depth; worst = w }) x
+    pub if_is : {x : Stmt} {g : Part} {w : ℕ} → Tagged x IF → BranchesMean m j levels g → w ≡ cut (add_w (bound_of 1) (bound_of g.worst))
+        → Lies m at (stmt_cells x) → nest_s x ≤ suc levels → FitS x → Shown at (record { at = g.at; depth = max 0 g.depth; worst = w }) x
     unfolding stmt_cells cell levels_s depth_s worst_s cut
     if_is (branched {b}) means q y n i =
         let k = tail p y in
         let r = means b k.1 (omega arith) i in
         let a = ap (λ f. f.at) r in
-        alike (omega arith) (ap (λ f. f.depth) r) (q ∙ rw r (add_cut (fin 1) (worst_b b)))
+        let d = ap (λ f. f.depth) r in
+        alike (omega arith) (omega arith) (q ∙ rw r (add_cut (fin 1) (worst_b b)))
 
-    pub case_is : {x : Stmt} {s : Ending} {g : Figures} {b d w : ℕ} → Tagged x CASE → HeldMeans m j s → GroupsMean m s.at levels g → b ≡ max 2 s.depth → d ≡ max b g.depth
-        → w ≡ cut (add_w (bound_of 1) (bound_of g.worst)) → Lies m at (stmt_cells x) → nest_s x ≤ suc levels → FitS x → Shown at (record { at = g.at; depth = d; worst = w }) x
+    pub case_is : {x : Stmt} {s : Ending} {g : Part} {b d w : ℕ} → Tagged x CASE → HeldMeans m j s → GroupsMean m s.at levels g → b ≡ max s.depth 2 → d ≡ max b g.depth
+        → w ≡ cut (add_w (bound_of 1) (bound_of g.worst)) → Lies m at (stmt_cells x) → nest_s x ≤ suc levels → FitS x → Shown at (record { at = g.at; depth = max 0 d; worst = w }) x
     unfolding stmt_cells cell levels_s depth_s worst_s cut
     case_is (chosen {e} {g}) held means t u q y n i =
         let k = tail p y in
@@ -93,14 +92,14 @@ module _ {m : L.List ℕ} {at j : ℕ} (p : j ≡ behind m at) where
         let b = ap (λ f. f.depth) r in
         alike (omega arith) (omega arith) (q ∙ rw r (add_cut (fin 1) (worst_g g)))
 
-    pub while_is : {x : Stmt} {s : Ending} {g : Figures} {d : ℕ} → Tagged x WHILE → HeldMeans m j s → ListMeans m s.at levels g → d ≡ max s.depth g.depth
+    pub while_is : {x : Stmt} {s : Ending} {g : Part} {d : ℕ} → Tagged x WHILE → HeldMeans m j s → ListMeans m s.at levels g → d ≡ max s.depth g.depth
         → Lies m at (stmt_cells x) → nest_s x ≤ suc levels → FitS x → Shown at (record { at = g.at; depth = d; worst = unbounded_mark }) x
     unfolding stmt_cells levels_s depth_s worst_s cut
     while_is (tested {c} {l}) held means u y n i =
         let r = conditional_list WHILE c l p held means y (omega arith) i.1 in
         alike r.0 (u ∙ r.1) refl
 
-    pub repeat_is : {x : Stmt} {s : Ending} {g : Figures} {d : ℕ} → Tagged x REPEAT → ListMeans m j levels g → HeldMeans m g.at s → d ≡ max g.depth s.depth
+    pub repeat_is : {x : Stmt} {s : Ending} {g : Part} {d : ℕ} → Tagged x REPEAT → ListMeans m j levels g → HeldMeans m g.at s → d ≡ max s.depth g.depth
         → Lies m at (stmt_cells x) → nest_s x ≤ suc levels → FitS x → Shown at (record { at = s.at; depth = d; worst = unbounded_mark }) x
     unfolding stmt_cells cell levels_s depth_s worst_s cut
     repeat_is (repeated {l} {c}) means held u y n i =
@@ -123,16 +122,16 @@ unfolding stmt_cells cell
 for_cells v a e s l = ap (λ w. FOR ∷ 0 ∷ v ∷ w) (regroup (held_cells 0 a) (held_cells 1 e) (cell BY 0 (to_u s)) (body_cells l))
 
 -- the step is written as an unsigned number
-for_worst : {w : ℕ} {by : Cell} {g : Figures} {at d : ℕ} (first last : Integer) (a e : Lit) (s : ℤ) (b : Bound) → LoopMeans first last by.datum g.worst w → lit_in first ≡ a → lit_in last ≡ e
+for_worst : {w : ℕ} {by : Cell} {g : Part} {at d : ℕ} (first last : Option ℤ) (a e : Lit) (s : ℤ) (b : Bound) → LoopMeans first last by.datum g.worst w → lit_in first ≡ a → lit_in last ≡ e
     → by ≡ record { tag = BY; place = 0; datum = to_u s } → Z32 s → g ≡ shown at d b → w ≡ cut (for_w a e s b)
 for_worst first last a e s b worst p q k z r = worst ∙ rw (p, q, k, of_u-to_u s z, r) (for_cut a e s b)
 
 -- FOR's parts, read one behind another
-pub for_means : {m : L.List ℕ} {at j k levels b d w : ℕ} {s e : Ending} {by : Cell} {g : Figures} (first last : Integer) → j ≡ behind m at → HeldMeans m j s → HeldMeans m s.at e
+pub for_means : {m : L.List ℕ} {j k levels b d w : ℕ} {s e : Ending} {by : Cell} {g : Part} (first last : Option ℤ) → HeldMeans m j s → HeldMeans m s.at e
     → by ≡ cell_in m e.at → k ≡ behind m e.at → ListMeans m k levels g → LiteralMeans m j first → LiteralMeans m s.at last → LoopMeans first last by.datum g.worst w
-    → b ≡ max s.depth e.depth → d ≡ max b g.depth → ForMeans m at levels (record { at = g.at; depth = d; worst = w })
+    → b ≡ max s.depth e.depth → d ≡ max b g.depth → ForMeans m j levels (record { at = g.at; depth = d; worst = w })
 unfolding depth_s worst_s
-for_means {m} {j = j} first last p initial final by q means from to worst lower deep v a e s l y n i =
+for_means {m} {j = j} first last initial final by q means from to worst lower deep at v a e s l p y n i =
     let b : L.List ℕ = BY ∷ 0 ∷ to_u s ∷ body_cells l in
     let whole = tail p (rw (for_cells v a e s l) at y) in
     let h = past_held 0 a (held_cells 1 e ++ b) initial whole.1 in
@@ -149,6 +148,6 @@ for_means {m} {j = j} first last p initial final by q means from to worst lower 
     (to 1 e (lies_first (held_cells 1 e) b h.2) i.2) (by ∙ head o.2) i.3 r))
 
 -- a statement with FOR's tag is a FOR
-pub for_is : {m : L.List ℕ} {at levels : ℕ} {r : Figures} {x : Stmt} → Tagged x FOR → ForMeans m at levels r → Lies m at (stmt_cells x) → nest_s x ≤ suc levels → FitS x → Shown at r x
+pub for_is : {m : L.List ℕ} {at j levels : ℕ} {r : Part} {x : Stmt} → j ≡ behind m at → Tagged x FOR → ForMeans m j levels r → Lies m at (stmt_cells x) → nest_s x ≤ suc levels → FitS x → Shown at r x
 unfolding levels_s
-for_is (counted {v} {a} {e} {s} {l}) means y n i = means v a e s l y (omega arith) i
+for_is p (counted {v} {a} {e} {s} {l}) means y n i = means _ v a e s l p y (omega arith) i

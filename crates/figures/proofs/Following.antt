@@ -15,9 +15,7 @@ use Rattle.theorems.specs.Levels.{nest_l}
 use Rattle.ticks.specs.Bounds.{cut}
 use Rattle.cells.specs.Reading.{behind, Lies}
 use Rattle.cells.specs.Laws.{lies_first, lies_rest}
-use Rattle.figures.specs.Parts.{shown, HeldMeans, ListMeans}
-use Rattle.figures.specs.declared.sums.Figures.{Figures}
-use Rattle.figures.specs.declared.expressions.Ending.{Ending}
+use Rattle.figures.specs.Parts.{Part, Ending, shown, HeldMeans, ListMeans}
 use Rattle.figures.proofs.Heads.{tail}
 
 -- behind an expression lies what followed it
@@ -28,14 +26,14 @@ past_held more e w held y =
     (h.0, h.1, rw h.0 (lies_rest (held_cells more e) w y))
 
 -- and so behind a list
-pub past_list : {m : L.List ℕ} {at levels : ℕ} {g : Figures} (l : List) (w : L.List ℕ) → ListMeans m at levels g → Lies m at (body_cells l ++ w) → nest_l l ≤ levels → FitL l
+pub past_list : {m : L.List ℕ} {at levels : ℕ} {g : Part} (l : List) (w : L.List ℕ) → ListMeans m at levels g → Lies m at (body_cells l ++ w) → nest_l l ≤ levels → FitL l
     → (g ≡ shown (at + length (body_cells l)) (depth_l l) (worst_l l)) × Lies m g.at w
 past_list l w means y n i =
     let r = means l (lies_first (body_cells l) w y) n i in
     (r, rw r (lies_rest (body_cells l) w y))
 
 -- a cell, a condition, its list
-pub conditional_list : {m : L.List ℕ} {at j levels : ℕ} {s : Ending} {g : Figures} (t : ℕ) (c : Expr) (l : List) → j ≡ behind m at → HeldMeans m j s → ListMeans m s.at levels g
+pub conditional_list : {m : L.List ℕ} {at j levels : ℕ} {s : Ending} {g : Part} (t : ℕ) (c : Expr) (l : List) → j ≡ behind m at → HeldMeans m j s → ListMeans m s.at levels g
     → Lies m at ((cell t 0 0 ++ held_cells 0 c) ++ body_cells l) → nest_l l ≤ levels → FitL l
     → (g.at ≡ at + length ((cell t 0 0 ++ held_cells 0 c) ++ body_cells l)) × (max s.depth g.depth ≡ max (height c) (depth_l l)) × (g.worst ≡ cut (worst_l l))
 unfolding cell

@@ -1,7 +1,6 @@
 pub mod Integers
 pub mod Heads
 pub mod Moving
-pub mod Skipping
 pub mod Closings
 pub mod Literals
 pub mod Tags

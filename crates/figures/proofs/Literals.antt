@@ -2,13 +2,13 @@
 use mathlib.Core.Path.{◌≡◌, refl, sym, ap, ◌∙◌}
 use mathlib.Core.Bool.{Bool, true, false}
 use mathlib.Core.List.{List, ◌∷◌, ◌++◌}
+use Rattle.std.specs.Prelude.{Option, Some}
 use Prim.Native.Nat.{ℕ, ◌+◌, ◌≤◌, ◌<◌}
 use native.Mathlib.Omega.{arith}
 use lib.Dec.{eqb}
+use Rattle.std.proofs.lemmas.Bool.{eqb-false}
 use lib.IntN.{ℤ, pos, negsuc}
 use lib.ListN.{length, length-append}
-use mir.Syntax.{w32}
-use mir.Val.{to_z, of_z}
 use Rattle.rules.specs.Bytes.{to_u}
 use Rattle.rules.specs.Codes.{un_code, bin_code}
 use Rattle.rules.specs.Kinds.{NAME, INT, TRUE, FALSE, OPEN}
@@ -17,13 +17,12 @@ use Rattle.rules.specs.Core.{Un, Neg, Not, Expr, num, flag, var, un, bin, pls, p
 use Rattle.rules.specs.CoreCells.{expr_cells, held_cells}
 use Rattle.rules.specs.Worst.{Lit, lit, nolit, con_of, neg_lit, lit_of}
 use Rattle.theorems.specs.Fields.{FitE}
-use Rattle.cells.specs.Reading.{cell_in, behind, is_item, Lies}
-use Rattle.cells.specs.declared.Cell.{Cell}
-use Rattle.figures.specs.Parts.{signed_of}
+use Rattle.cells.specs.Reading.{cell_in, behind, Lies}
+use Rattle.cells.specs.Runs.{Without, none, next, without_both}
+use Rattle.cells.specs.declared.cell.Cell.{Cell}
+use Rattle.figures.specs.Parts.{signed_of, lit_in}
 use Rattle.figures.proofs.Heads.{head, tail}
-use Rattle.figures.proofs.Integers.{read_back}
-use Rattle.figures.proofs.Skipping.{Run, none, next, runs_on}
-use Rattle.figures.proofs.Closings.{Item, expr-run, whole_is_no_item}
+use Rattle.figures.proofs.Closings.{expr_run}
 
 -- the first two cells and the third one's tag, and what they are read as
 pub data Looks (a b : Cell) (t : ℕ) : Lit → Type 0 where
@@ -68,14 +67,14 @@ module _ {m : List ℕ} {i : ℕ} where
       other (λ _ k. h (sym (ap (λ x. x.tag) b) ∙ k)) (λ _ k _. ap (λ x. x.datum) b ∙ g (sym (ap (λ x. x.tag) b) ∙ k))
 
   -- three items: neither the second nor the third is the closing cell
-  three : {xs : List ℕ} (w : List ℕ) → Run Item xs → 9 ≤ length xs → Lies m i (xs ++ w) → LooksAt m i nolit
+  three : {xs : List ℕ} (w : List ℕ) → Without WHOLE xs → 9 ≤ length xs → Lies m i (xs ++ w) → LooksAt m i nolit
   three w none l y = absurd (omega arith)
   three w (next a none) l y = absurd (omega arith)
   three w (next a (next b none)) l y = absurd (omega arith)
   three w (next a (next b (next c r))) l y =
       other
-      (λ _ k. whole_is_no_item (rw (sym (ap (λ x. x.tag) (second y)) ∙ k) at b))
-      (λ _ _ k. absurd (whole_is_no_item (rw (sym (third y) ∙ k) at c)))
+      (λ _ k. eqb-false _ _ b (sym (ap (λ x. x.tag) (second y)) ∙ k))
+      (λ _ _ k. absurd (eqb-false _ _ c (sym (third y) ∙ k)))
 
 -- how long the cells of an expression are
 
@@ -102,7 +101,7 @@ both a b = omega (arith, length-append (expr_cells a) (expr_cells b), least a, l
 
 -- whatever cell of an operator or a parenthesis stands behind these, they are read as no literal
 abbrev Apart : List ℕ → Type 0
-Apart xs = (m : List ℕ) (i t p d : ℕ) (w : List ℕ) → Item t → Lies m i ((xs ++ cell t p d) ++ w) → LooksAt m i nolit
+Apart xs = (m : List ℕ) (i t p d : ℕ) (w : List ℕ) → eqb t WHOLE ≡ false → Lies m i ((xs ++ cell t p d) ++ w) → LooksAt m i nolit
 
 data Inner : Expr → Type 0 where
   integer : {n : ℕ} → n < 2147483648 → Inner (num (pos n))
@@ -114,12 +113,12 @@ unfolding cell
 leaf t d h m i u p e w k y = no_integer h y
 
 -- two cells or more
-large : (xs : List ℕ) → Run Item xs → 6 ≤ length xs → Apart xs
+large : (xs : List ℕ) → Without WHOLE xs → 6 ≤ length xs → Apart xs
 unfolding cell
-large xs r l m i t p d w k y = three w (runs_on r (next k none)) (omega (arith, ended xs t p d)) y
+large xs r l m i t p d w k y = three w (without_both r (next k none)) (omega (arith, ended xs t p d)) y
 
 -- an expression with an operator or parentheses
-longer : (xs : List ℕ) (t p d : ℕ) → Run Item (xs ++ cell t p d) → 3 ≤ length xs → Apart (xs ++ cell t p d)
+longer : (xs : List ℕ) (t p d : ℕ) → Without WHOLE (xs ++ cell t p d) → 3 ≤ length xs → Apart (xs ++ cell t p d)
 longer xs t p d r l = large (xs ++ cell t p d) r (omega (arith, ended xs t p d))
 
 -- every expression is one or the other
@@ -130,10 +129,10 @@ inner (num (negsuc n)) f = absurd f
 inner (flag true) f = apart refl (leaf TRUE _ (λ e. omega arith))
 inner (flag false) f = apart refl (leaf FALSE _ (λ e. omega arith))
 inner (var j) f = apart refl (leaf NAME j (λ e. omega arith))
-inner (un ι o a) f = apart refl (longer (expr_cells a) UNARY ι (un_code o) (expr-run (un ι o a)) (least a))
-inner (bin ι o a b) f = apart refl (longer (expr_cells a ++ expr_cells b) BINARY ι (bin_code o) (expr-run (bin ι o a b)) (omega (arith, both a b)))
-inner (pls a) f = apart refl (longer (expr_cells a) UNARY 0 0 (expr-run (pls a)) (least a))
-inner (par a) f = apart refl (longer (expr_cells a) OPEN 0 0 (expr-run (par a)) (least a))
+inner (un ι o a) f = apart refl (longer (expr_cells a) UNARY ι (un_code o) (expr_run (un ι o a)) (least a))
+inner (bin ι o a b) f = apart refl (longer (expr_cells a ++ expr_cells b) BINARY ι (bin_code o) (expr_run (bin ι o a b)) (omega (arith, both a b)))
+inner (pls a) f = apart refl (longer (expr_cells a) UNARY 0 0 (expr_run (pls a)) (least a))
+inner (par a) f = apart refl (longer (expr_cells a) OPEN 0 0 (expr_run (par a)) (least a))
 
 -- a sign before what is no integer
 no_literal : (o : Un) → neg_lit o nolit ≡ nolit
@@ -144,33 +143,33 @@ no_literal Not = refl
 module _ {m : List ℕ} {i : ℕ} (more : ℕ) where
   -- `-` or NOT
   with_sign : (ι : ℕ) (o : Un) {a : Expr} → Inner a → Lies m i (held_cells more (un ι o a)) → LooksAt m i (neg_lit o (con_of a))
-  unfolding held_cells expr_cells cell to_u un_code neg_lit con_of signed_of is_item
+  unfolding held_cells expr_cells cell to_u un_code neg_lit con_of signed_of
   with_sign ι Neg (integer h) y = two h (λ e. omega arith) y
   with_sign ι Not (integer h) y = no_sign (λ e. omega arith) (λ _. refl) y
   with_sign ι o (apart c k) y = rw (c, no_literal o) (k m i UNARY ι (un_code o) _ refl y)
 
   -- unary plus
   with_plus : {a : Expr} → Inner a → Lies m i (held_cells more (pls a)) → LooksAt m i (con_of a)
-  unfolding held_cells expr_cells cell to_u con_of signed_of is_item
+  unfolding held_cells expr_cells cell to_u con_of signed_of
   with_plus (integer h) y = two h (λ e. omega arith) y
   with_plus (apart c k) y = rw c (k m i UNARY 0 0 _ refl y)
 
   -- parentheses
   enclosed : {a : Expr} → Inner a → Lies m i (held_cells more (par a)) → LooksAt m i nolit
-  unfolding held_cells expr_cells cell to_u is_item
+  unfolding held_cells expr_cells cell to_u
   enclosed (integer h) y = no_sign (λ e. omega arith) (λ e. absurd (omega arith)) y
   enclosed (apart c k) y = k m i OPEN 0 0 _ refl y
 
   -- every expression is read as what it is
   pub looks : (e : Expr) → FitE e → Lies m i (held_cells more e) → LooksAt m i (lit_of e)
-  unfolding held_cells expr_cells cell to_u truth_kind lit_of is_item
+  unfolding held_cells expr_cells cell to_u truth_kind lit_of
   looks (num (pos n)) f y = one f y
   looks (num (negsuc n)) f y = absurd f
   looks (flag true) f y = no_integer (λ e. omega arith) y
   looks (flag false) f y = no_integer (λ e. omega arith) y
   looks (var j) f y = no_integer (λ e. omega arith) y
   looks (un ι o a) f y = with_sign ι o (inner a f) y
-  looks (bin ι o a b) f y = large (expr_cells a ++ expr_cells b) (runs_on (expr-run a) (expr-run b)) (both a b) m i BINARY ι (bin_code o) _ refl y
+  looks (bin ι o a b) f y = large (expr_cells a ++ expr_cells b) (without_both (expr_run a) (expr_run b)) (both a b) m i BINARY ι (bin_code o) _ refl y
   looks (pls a) f y = with_plus (inner a f) y
   looks (par a) f y = enclosed (inner a f) y
 
@@ -184,18 +183,19 @@ module _ {a b : Cell} {t : ℕ} where
   none_read (other p q) g k = refl
 
   -- an integer alone
-  pub alone-read : {l : Lit} {z : ℤ} → Looks a b t l → a.tag ≡ INT → b.tag ≡ WHOLE → (a.datum < 2147483648 → z ≡ signed_of false a.datum) → lit (to_z w32 (of_z w32 z)) ≡ l
-  unfolding signed_of
-  alone-read (alone n h i d w) ti tw k = rw (k (omega arith), d) (ap lit (read_back false n h))
-  alone-read (signed minus n h i d u e f w) ti tw k = absurd (omega arith)
-  alone-read (other p q) ti tw k = absurd (p ti tw)
+  pub alone_read : {l : Lit} {z : Option ℤ} → Looks a b t l → a.tag ≡ INT → b.tag ≡ WHOLE → (a.datum < 2147483648 → z ≡ Some (signed_of false a.datum)) → lit_in z ≡ l
+  unfolding signed_of lit_in
+  alone_read (alone n h i d w) ti tw k = rw (k (omega arith), d)
+  alone_read (signed minus n h i d u e f w) ti tw k = absurd (omega arith)
+  alone_read (other p q) ti tw k = absurd (p ti tw)
 
   -- an integer and a sign
-  pub signed-read : {l : Lit} {z : ℤ} → Looks a b t l → a.tag ≡ INT → b.tag ≡ UNARY → (b.datum ≡ 6 → ⊥) → t ≡ WHOLE → (a.datum < 2147483648 → z ≡ signed_of (eqb b.datum 5) a.datum)
-      → lit (to_z w32 (of_z w32 z)) ≡ l
-  signed-read (alone n h i d w) ti tu f tw k = absurd (omega arith)
-  signed-read (signed minus n h i d u e g w) ti tu f tw k = rw (k (omega arith), d, e) (ap lit (read_back minus n h))
-  signed-read (other p q) ti tu f tw k = absurd (f (q ti tu tw))
+  pub signed_read : {l : Lit} {z : Option ℤ} → Looks a b t l → a.tag ≡ INT → b.tag ≡ UNARY → (b.datum ≡ 6 → ⊥) → t ≡ WHOLE
+      → (a.datum < 2147483648 → z ≡ Some (signed_of (eqb b.datum 5) a.datum)) → lit_in z ≡ l
+  unfolding lit_in
+  signed_read (alone n h i d w) ti tu f tw k = absurd (omega arith)
+  signed_read (signed minus n h i d u e g w) ti tu f tw k = rw (k (omega arith), d, e)
+  signed_read (other p q) ti tu f tw k = absurd (f (q ti tu tw))
 
 -- as the code reads the cells, one after another
 pub looks_as : {m : List ℕ} {i j k t : ℕ} {a b : Cell} (more : ℕ) (e : Expr) → a ≡ cell_in m i → j ≡ behind m i → b ≡ cell_in m j → k ≡ behind m j → t ≡ (cell_in m k).tag

@@ -1,9 +1,11 @@
--- Places that the code reads at only move on. Assumes nothing.
-use mathlib.Core.Path.{◌≡◌, ◌∙◌}
+-- Places that the code reads at only move on, and what a test says of the tag that lies there. Assumes nothing.
+use mathlib.Core.Path.{◌≡◌, sym, ap, ◌∙◌}
+use mathlib.Core.Bool.{Bool, true, false}
 use mathlib.Core.List.{List}
-use Prim.Native.Nat.{ℕ, ◌-◌, ◌≤◌, ◌<◌}
-use native.Mathlib.Omega.{arith}
+use Prim.Native.Nat.{ℕ, ◌-◌, ◌≤◌}
+use lib.Dec.{eqb}
 use lib.ListN.{length}
+use Rattle.std.proofs.lemmas.Bool.{eqb-true, eqb-false}
 use Rattle.cells.specs.Reading.{cell_in, behind, Moves}
 use Rattle.cells.specs.Laws.{behind_moves, tag_moves}
 
@@ -12,20 +14,14 @@ pub past : (m : List ℕ) (i : ℕ) {j : ℕ} → j ≡ behind m i → Moves m i
 past m i e = rw e (behind_moves m i)
 
 -- where a tag is read, a cell lies
-pub room : (m : List ℕ) (i : ℕ) {t : ℕ} → t ≡ (cell_in m i).tag → (t ≡ 0 → ⊥) → 3 ≤ length m - i
-room m i e h = tag_moves m i (λ z. h (e ∙ z))
+pub room : (m : List ℕ) (i : ℕ) {t : ℕ} → (cell_in m i).tag ≡ t → (t ≡ 0 → ⊥) → 3 ≤ length m - i
+room m i e h = tag_moves m i (λ z. h (sym e ∙ z))
 
--- What is left, in numbers: a before, b behind one part, c behind two
+-- the tag that is tested, in the same numbers
 
-pub further : (a : ℕ) {b c : ℕ} → b ≤ a - 3 → c ≤ b - 3 → c ≤ a - 3
-further a h k = omega arith
+module _ (i : ℕ) {m n : List ℕ} {k : ℕ} {b : Bool} (same : n ≡ m) (test : b ≡ eqb (cell_in n i).tag k) where
+  pub is_tag : b ≡ true → (cell_in m i).tag ≡ k
+  is_tag e = ap (λ x. (cell_in x i).tag) (sym same) ∙ eqb-true _ _ (sym test ∙ e)
 
-pub fewer : {a b : ℕ} → 3 ≤ a → b ≤ a - 3 → b < a
-fewer h k = omega arith
-
--- a loop started with c left
-pub within : {a b c : ℕ} → a ≤ c → b ≤ a - 3 → b ≤ c
-within h k = omega arith
-
-pub behind_loop : {a b c : ℕ} → a ≤ c → b ≤ a - 3 → b ≤ c - 3
-behind_loop h k = omega arith
+  pub is_other : b ≡ false → (cell_in m i).tag ≡ k → ⊥
+  is_other e k = eqb-false _ _ (sym test ∙ e) (ap (λ x. (cell_in x i).tag) same ∙ k)

@@ -14,18 +14,18 @@ use Rattle.rules.specs.Worst.{worst_l, figure}
 use Rattle.rules.specs.Compile.{front}
 use Rattle.rules.specs.Cells.{Lent, refused_lent}
 use Rattle.rules.specs.CoreCells.{variable_cells, body_cells, program_cells, program_for, program_left, walked}
-use Rattle.rules.specs.Answers.{left, TreeFits, figured}
-use Rattle.rules.specs.declared.Stage.{Stage}
-use Rattle.rules.specs.declared.Stage.TheVariants.{Left, Refused as StageRefused}
-use Rattle.rules.specs.declared.Figured.TheVariants.{Figures as Stating, Refused}
+use Rattle.std.specs.Prelude.{Ok as Left, Err as Refused}
+use Rattle.rules.specs.Answers.{fault_number, answer_of, left, figured}
+use Rattle.rules.specs.declared.compiling.Refusal.{Refusal}
+use Rattle.rules.specs.declared.compiling.Stated.{Stated}
 use Rattle.theorems.specs.WellTyped.{inv, needed}
 use Rattle.theorems.specs.Promise.{front_fits}
 use Rattle.ticks.specs.Bounds.{bound_of, cut}
 use Rattle.ticks.specs.Laws.{figure_cut}
-use Rattle.cells.specs.Reading.{Lies, Moves}
+use Rattle.cells.specs.Reading.{Lies}
 use Rattle.cells.specs.Laws.{lies_first, lies_rest}
-use Rattle.figures.specs.Parts.{shown, VariablesMean, ListMeans, ProgramFits}
-use Rattle.figures.specs.declared.sums.Figures.{Figures}
+use Rattle.figures.proofs.Closings.{VariablesMean}
+use Rattle.figures.specs.Parts.{Part, shown, ListMeans, ProgramFits}
 
 -- what is stored lies there
 pub stored : (l : List ℕ) (i : ℕ) (xs : List ℕ) → i + length xs ≤ length l → Lies (sets l i xs) i xs
@@ -48,27 +48,24 @@ passed lent text p e =
     record { long = leb-true memory_numbers lent (needed _ 17 0 a.0 a.1); fronted = b.2 }
 
 -- a refusal of the walk is the refusal here
-refusal_states : (n q : ℕ) (R : Res Program) (lent m : List ℕ) → left (StageRefused n q) m ≡ program_left R lent → (Refused n q ≡ figured R) × ProgramFits R
+refusal_states : (w : Refusal) (R : Res Program) (lent m : List ℕ) → left (Refused w) m ≡ program_left R lent → (refuse (fault_number w.fault) w.place ≡ figured R) × ProgramFits R
 unfolding program_left refused_lent
-refusal_states n q (ok p) lent m e =
-    let answers : refuse n q ≡ ok (length (program_cells p)) = ap (λ (x : Lent). x.answer) e in
+refusal_states w (ok p) lent m e =
+    let answers : refuse (fault_number w.fault) w.place ≡ ok (length (program_cells p)) = ap (λ (x : Lent). x.answer) e in
     let z : ◌≡◌ {A = ℕ} 0 1 = cc in
     absurd (omega arith)
-refusal_states n q (refuse o r) lent m e =
-    let answers : refuse n q ≡ refuse o r = ap (λ (x : Lent). x.answer) e in
-    let a : n ≡ o = cc in
-    let b : q ≡ r = cc in
-    (rw (a, b), tt)
+refusal_states w (refuse o r) lent m e =
+    let answers : refuse (fault_number w.fault) w.place ≡ refuse o r = ap (λ (x : Lent). x.answer) e in
+    (cc, tt)
 
-pub refused_states : (text lent m : List ℕ) (stage : Stage) (n q : ℕ) → stage ≡ StageRefused n q → (left stage m ≡ walked text lent) × TreeFits stage
-    → (Refused n q ≡ figured (program_for (length lent) text)) × ((m ≡ (walked text lent).memory) × ProgramFits (program_for (length lent) text))
+pub refused_states : (text lent m : List ℕ) (w : Refusal) → left (Refused w) m ≡ walked text lent
+    → (answer_of {A = Stated} (Refused w) ≡ figured (program_for (length lent) text)) × ((m ≡ (walked text lent).memory) × ProgramFits (program_for (length lent) text))
 unfolding walked
-refused_states text lent m stage n q known did =
-    let e : left (StageRefused n q) m ≡ walked text lent = rw known at did.0 in
-    let did = refusal_states n q (program_for (length lent) text) lent m e in
+refused_states text lent m w e =
+    let did = refusal_states w (program_for (length lent) text) lent m e in
     (did.0, (ap (λ (x : Lent). x.memory) e, did.1))
 
-module _ (text lent m : List ℕ) (count at worst : ℕ) (f : Figures) (few : count ≤ tree_numbers) (vars : VariablesMean m at) (list : ListMeans m at nesting_limit f) (told : worst ≡ figure (bound_of f.worst)) where
+module _ (text lent m : List ℕ) (count at worst : ℕ) (f : Part) (few : count ≤ tree_numbers) (vars : VariablesMean m token_numbers at) (list : ListMeans m at nesting_limit f) (told : worst ≡ figure (bound_of f.worst)) where
   -- the program's cells lie where the walk left them
   module _ (p : Program) (fronted : program_for (length lent) text ≡ ok p) (same : m ≡ sets (replicate (length lent) 0) token_numbers (program_cells p)) (counted : count ≡ length (program_cells p)) where
     lies : Lies m token_numbers (variable_cells p.vars ++ body_cells p.body)
@@ -85,13 +82,13 @@ module _ (text lent m : List ℕ) (count at worst : ℕ) (f : Figures) (few : co
         let e = vars p.vars (lies_first (variable_cells p.vars) (body_cells p.body) lies) in
         list p.body (rw e (lies_rest (variable_cells p.vars) (body_cells p.body) lies)) fits.nests fits.walked.fits
 
-    stated : Stating f.depth worst ≡ figured (ok p)
+    stated : ok (record { depth = f.depth; worst = worst }) ≡ figured (ok p)
     stated =
-        let d : f.depth ≡ depth_l p.body = ap (λ (g : Figures). g.depth) read in
-        let w : f.worst ≡ cut (worst_l p.body) = ap (λ (g : Figures). g.worst) read in
+        let d : f.depth ≡ depth_l p.body = ap (λ (g : Part). g.depth) read in
+        let w : f.worst ≡ cut (worst_l p.body) = ap (λ (g : Part). g.worst) read in
         rw (told, d, w, figure_cut (worst_l p.body))
 
-  by_answer : (R : Res Program) → program_for (length lent) text ≡ R → left (Left count) m ≡ program_left R lent → (Stating f.depth worst ≡ figured R) × ProgramFits R
+  by_answer : (R : Res Program) → program_for (length lent) text ≡ R → left (Left count) m ≡ program_left R lent → (ok (record { depth = f.depth; worst = worst }) ≡ figured R) × ProgramFits R
   unfolding program_left refused_lent
   by_answer (ok p) h e =
       let answers : ok count ≡ ok (length (program_cells p)) = ap (λ (x : Lent). x.answer) e in
@@ -103,12 +100,10 @@ module _ (text lent m : List ℕ) (count at worst : ℕ) (f : Figures) (few : co
       absurd (omega arith)
 
 -- a program that the walk leaves is stated with its figures
-pub left_states : (text lent m : List ℕ) (stage : Stage) (count at worst : ℕ) (f : Figures) → stage ≡ Left count → (left stage m ≡ walked text lent) × TreeFits stage → VariablesMean m at
-    → Moves m at f.at × ListMeans m at nesting_limit f → worst ≡ figure (bound_of f.worst)
-    → (Stating f.depth worst ≡ figured (program_for (length lent) text)) × ((m ≡ (walked text lent).memory) × ProgramFits (program_for (length lent) text))
+pub left_states : (text lent m : List ℕ) (count at worst : ℕ) (f : Part) → (left (Left count) m ≡ walked text lent) × (count ≤ tree_numbers) → VariablesMean m token_numbers at
+    → ListMeans m at nesting_limit f → worst ≡ figure (bound_of f.worst)
+    → (answer_of (Left (record { depth = f.depth; worst = worst })) ≡ figured (program_for (length lent) text)) × ((m ≡ (walked text lent).memory) × ProgramFits (program_for (length lent) text))
 unfolding walked
-left_states text lent m stage count at worst f known did vars list told =
-    let e : left (Left count) m ≡ walked text lent = rw known at did.0 in
-    let few : TreeFits (Left count) = rw known at did.1 in
-    let does = by_answer text lent m count at worst f few vars list.1 told (program_for (length lent) text) refl e in
-    (does.0, (ap (λ (x : Lent). x.memory) e, does.1))
+left_states text lent m count at worst f e vars list told =
+    let does = by_answer text lent m count at worst f e.1 vars list told (program_for (length lent) text) refl e.0 in
+    (does.0, (ap (λ (x : Lent). x.memory) e.0, does.1))

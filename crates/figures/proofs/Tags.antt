@@ -2,12 +2,12 @@
 use mathlib.Core.Path.{◌≡◌, refl, sym, ◌∙◌}
 use mathlib.Core.Bool.{true, false}
 use mathlib.Core.List as L
-use Prim.Native.Nat.{ℕ}
+use Prim.Native.Nat.{ℕ, ◌<◌}
 use native.Mathlib.Omega.{arith}
 use lib.IntN.{ℤ}
 use Rattle.rules.specs.Core.{Expr, Labels, lnil, lab, Stmt, List, Brs, Grps, assign, if, case, for, while, repeat, exit, nil, cons}
 use Rattle.rules.specs.Kinds.{FINISH, ASSIGN, IF, CASE, FOR, WHILE, REPEAT, EXIT}
-use Rattle.rules.specs.Cells.{cell, end_cell}
+use Rattle.rules.specs.Cells.{cell, end_cell, WHOLE}
 use Rattle.rules.specs.CoreCells.{span_cells, stmt_cells, body_cells}
 use Rattle.cells.specs.Reading.{cell_in, is_label, Lies}
 use Rattle.cells.specs.Laws.{lies_first}
@@ -50,6 +50,16 @@ no_end counted e = omega arith
 no_end tested e = omega arith
 no_end repeated e = omega arith
 no_end left e = omega arith
+
+-- nor is its tag above those of kinds
+pub no_unknown : {x : Stmt} {t : ℕ} → Tagged x t → WHOLE < t → ⊥
+no_unknown assigned h = omega arith
+no_unknown branched h = omega arith
+no_unknown chosen h = omega arith
+no_unknown counted h = omega arith
+no_unknown tested h = omega arith
+no_unknown repeated h = omega arith
+no_unknown left h = omega arith
 
 no_label : {x : Stmt} {t : ℕ} → Tagged x t → is_label t ≡ false
 unfolding is_label

@@ -10,8 +10,7 @@ use Rattle.ticks.specs.Bounds.{bound_of, cut}
 use Rattle.ticks.specs.Laws.{add_cut, max_cut}
 use Rattle.cells.specs.Reading.{behind, Lies}
 use Rattle.cells.specs.Laws.{lies_rest}
-use Rattle.figures.specs.Parts.{shown}
-use Rattle.figures.specs.declared.sums.Figures.{Figures}
+use Rattle.figures.specs.Parts.{Part, shown}
 use Rattle.figures.proofs.Heads.{tail}
 
 -- Worst cases of parts: one after another, or one of them
@@ -63,11 +62,11 @@ pub largest : Joining max_w
 largest = record { assoc = max_assoc; after_nothing = zero-max; before_nothing = max-zero; cuts = max_cut }
 
 -- figures with equal parts are equal
-pub alike : {i j d e v w : ℕ} → i ≡ j → d ≡ e → v ≡ w → ◌≡◌ {A = Figures} (record { at = i; depth = d; worst = v }) (record { at = j; depth = e; worst = w })
+pub alike : {i j d e v w : ℕ} → i ≡ j → d ≡ e → v ≡ w → ◌≡◌ {A = Part} (record { at = i; depth = d; worst = v }) (record { at = j; depth = e; worst = w })
 alike p q r = rw (p, q, r)
 
 -- f is so far, and the numbers xs, with this depth and this bound, are still ahead; the whole ends there, with that depth and that bound
-pub record Ahead (join : Bound → Bound → Bound) (m : List ℕ) (f : Figures) (end deep : ℕ) (bound : Bound) (xs : List ℕ) (d : ℕ) (b : Bound) : Type 0 where
+pub record Ahead (join : Bound → Bound → Bound) (m : List ℕ) (f : Part) (end deep : ℕ) (bound : Bound) (xs : List ℕ) (d : ℕ) (b : Bound) : Type 0 where
   pub lies : Lies m f.at xs
   pub ends : f.at + length xs ≡ end
   pub deepest : max f.depth d ≡ deep
@@ -76,7 +75,7 @@ pub record Ahead (join : Bound → Bound → Bound) (m : List ℕ) (f : Figures)
   pub total : join far b ≡ bound
 
 -- one more part
-abbrev pub joined : (Bound → Bound → Bound) → Figures → Figures → Figures
+abbrev pub joined : (Bound → Bound → Bound) → Part → Part → Part
 joined join f g = record { at = g.at; depth = max f.depth g.depth; worst = cut (join (bound_of f.worst) (bound_of g.worst)) }
 
 module _ {join : Bound → Bound → Bound} (j : Joining join) where
@@ -85,9 +84,9 @@ module _ {join : Bound → Bound → Bound} (j : Joining join) where
   unfolding cut
   begin d b y = record { lies = y; ends = refl; deepest = omega arith; far = fin 0; held = refl; total = j.after_nothing b }
 
-  module _ {m : List ℕ} {f : Figures} {end deep : ℕ} {bound : Bound} where
+  module _ {m : List ℕ} {f : Part} {end deep : ℕ} {bound : Bound} where
     -- past the first part
-    pub go_on : {g : Figures} (xs ys : List ℕ) (d e : ℕ) (a b : Bound) → Ahead join m f end deep bound (xs ++ ys) (max d e) (join a b) → g ≡ joined join f (shown (f.at + length xs) d a)
+    pub go_on : {g : Part} (xs ys : List ℕ) (d e : ℕ) (a b : Bound) → Ahead join m f end deep bound (xs ++ ys) (max d e) (join a b) → g ≡ joined join f (shown (f.at + length xs) d a)
         → Ahead join m g end deep bound ys e b
     go_on xs ys d e a b k q = rw q (record {
       lies = lies_rest xs ys k.lies;

@@ -1,84 +1,44 @@
 // Expressions: what stack they need, and whether they are an integer.
-ghost use Rattle.std.specs.Prelude.{◌≡◌, ◌<◌};
+ghost use Rattle.std.specs.Prelude.{◌≡◌, ◌<◌, Some};
 ghost use Rattle.cells.specs.Reading.{Moves};
 ghost use Rattle.figures.specs.Parts.{signed_of, HeldMeans, LiteralMeans};
 
-use cells::{behind, cell_at, is_item, tag_at};
+use cells::Reader;
 use rules::Kind;
 
-// An expression: where it ends, and the stack that it needs.
-#[derive(Drop)]
-pub(crate) struct Ending {
-    pub at: usize,
-    pub depth: u32,
-}
+// The codes of the signs that stand in cells.
+const MINUS: u32 = 5;
 
-// An expression's value, if it is one integer with an optional sign and no parentheses.
-#[derive(Drop)]
-pub(crate) struct Integer {
-    pub known: bool,
-    pub value: i32,
-}
+const NOT: u32 = 6;
 
-// The closing cell says what stack an expression needs.
-pub(crate) fn held(memory: &[u32], at: usize) -> Ending
-    ensures fine { Moves memory.now at result.at }
-    ensures means { HeldMeans memory.now at result }
+// The stack that an expression needs: its closing cell says it.
+pub(crate) fn held(reader: &mut Reader<'_>) -> u32
+    ensures same { reader.new.memory.now ≡ reader.old.memory.now }
+    ensures fine { Moves reader.old.memory.now reader.old.at reader.new.at }
+    ensures means { HeldMeans reader.old.memory.now reader.old.at (record { at = reader.new.at; depth = result }) }
 {
-    let mut i = at;
-    while is_item(tag_at(memory, i)) {
-        i = behind(memory, i);
-    }
-    let end = cell_at(memory, i);
-    Ending {
-        at: behind(memory, i),
-        depth: end.datum,
-    }
+    reader.read_past(Kind::Whole).datum
 }
 
 // An integer, which is at most 2147483647, as it is or with a minus before it.
-fn signed(minus: bool, value: u32) -> i32
-    ensures { value < 2147483648 → result ≡ signed_of minus value }
+fn signed(minus: bool, value: u32) -> Option<i32>
+    ensures { value < 2147483648 → result ≡ Some (signed_of minus value) }
 {
-    if 2147483647 < value {
-        return 0;
-    }
-    let v = octets::signed(value);
-    if minus { 0 - v } else { v }
+    let value = i32::try_from(value).ok()?;
+    Some(if minus { -value } else { value })
 }
 
 // One integer, then `-` or `+` or nothing, then the closing cell.
-pub(crate) fn literal(memory: &[u32], at: usize) -> Integer
-    ensures { LiteralMeans memory.now at result }
+pub(crate) fn literal(mut reader: Reader<'_>) -> Option<i32>
+    ensures { LiteralMeans reader.entry.memory.now reader.entry.at result }
 {
-    let integer = cell_at(memory, at);
-    let second = behind(memory, at);
-    let sign = cell_at(memory, second);
-    let third = behind(memory, second);
-    let none = Integer {
-        known: false,
-        value: 0,
-    };
-    if integer.tag != Kind::INT {
-        return none;
+    let integer = reader.next_if(Kind::Int)?;
+    if reader.is_at(Kind::Whole) {
+        return signed(false, integer.datum);
     }
-    if sign.tag == Kind::WHOLE {
-        return Integer {
-            known: true,
-            value: signed(false, integer.datum),
-        };
+    let sign = reader.next_if(Kind::Unary)?;
+    if sign.datum == NOT || !reader.is_at(Kind::Whole) {
+        return None;
     }
-    if sign.tag != Kind::UNARY {
-        return none;
-    }
-    if sign.datum == 6 {
-        return none;
-    }
-    if tag_at(memory, third) != Kind::WHOLE {
-        return none;
-    }
-    Integer {
-        known: true,
-        value: signed(sign.datum == 5, integer.datum),
-    }
+    signed(sign.datum == MINUS, integer.datum)
 }

@@ -7,39 +7,28 @@ mod sums;
 
 ghost use Rattle.std.specs.Prelude.{◌≡◌, length};
 ghost use Rattle.rules.specs.CoreCells.{program_for, walked};
-ghost use Rattle.rules.specs.Answers.{figured};
-ghost use Rattle.figures.specs.Parts.{VariablesMean, ProgramFits};
+ghost use Rattle.rules.specs.Answers.{answer_of, figured};
+ghost use Rattle.figures.specs.Parts.{ProgramFits};
 
-use cells::{behind, tag_at};
-use rules::{Figured, Kind, Limits, Stage};
+use cells::Reader;
+use rules::{Kind, Limits, Refusal, Stated};
 
-// Behind the variables of the core program.
-fn past_variables(memory: &[u32]) -> usize
-    ensures { VariablesMean memory.now result }
-{
-    let mut i = Limits::TOKEN_NUMBERS;
-    while tag_at(memory, i) != Kind::FINISH {
-        i = behind(memory, i);
-    }
-    behind(memory, i)
-}
+// Statements are nested no deeper.
+const LEVELS: u32 = 16;
 
 // Depth and worst case; the core program is left in working memory as the walk leaves it.
-pub fn figures(text: &[u8], memory: &mut [u32]) -> Figured
-    ensures means { result ≡ figured (program_for (length memory.old) text.now) }
+pub fn figures(text: &[u8], memory: &mut [u32]) -> Result<Stated, Refusal>
+    ensures means { answer_of result ≡ figured (program_for (length memory.old) text.now) }
     ensures leaves { memory.new ≡ (walked text.now memory.old).memory }
     ensures fits { ProgramFits (program_for (length memory.old) text.now) }
 {
-    let stage = walk::walk(text, memory);
-    match stage {
-        Stage::Refused { number, place } => Figured::Refused { number, place },
-        Stage::Left(count) => {
-            let body = past_variables(memory);
-            let f = statements::list(memory, body, 16);
-            Figured::Figures {
-                depth: f.depth,
-                worst: ticks::figure(f.worst),
-            }
-        }
-    }
+    walk::walk(text, memory)?;
+    let mut reader = Reader::new(memory, Limits::TOKEN_NUMBERS);
+    // The statements lie behind the variables, which the end of their list closes.
+    reader.read_past(Kind::Finish);
+    let all = statements::list(&mut reader, LEVELS);
+    Ok(Stated {
+        depth: all.depth,
+        worst: ticks::figure(all.worst),
+    })
 }

@@ -1,3 +1,3 @@
 -- The laws that belong to no one function.
-pub mod Records
+pub mod Reading
 pub mod Whole

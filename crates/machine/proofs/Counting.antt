@@ -4,12 +4,14 @@ use mathlib.Core.Bool.{Bool, true, false, not, ◌&&◌}
 use mathlib.Core.List.{List}
 use Prim.Native.Nat.{ℕ, ◌<◌}
 use lib.Dec.{ltb}
-use lib.IntN.{ℤ, pos}
+use lib.IntN.{ℤ, pos, ◌+ℤ◌}
 use lib.ListN.{length, get_or}
 use borrow.Author.Tests.{ltb-true, lt-ltb}
 use Rattle.rules.specs.Limits.{for_limit}
 use Rattle.rules.specs.Numbers.{Ty, dint, is_dint, is_zero}
-use Rattle.rules.specs.Meaning.{Table, val, stop, ill, load, load_d}
+use Rattle.std.specs.Prelude.{cond, None, Some}
+use Rattle.rules.specs.Meaning.{Table, val, stop, ill, load, load_d, passes}
+use Rattle.compare.specs.Advancing.{advance_of}
 use Rattle.variables.proofs.Options.{clash, both}
 use Rattle.machine.specs.Stepping.{may_count}
 
@@ -43,3 +45,24 @@ module _ (Γ : List Ty) (t : Table) (l v : ℕ) (d : ℤ) where
       by y false q r e = rw (r, load_d)
       by false true q r e = rw (r, q, load_d, load)
       by true true q r e = clash (cc)
+
+-- ---- what a FOR's step does, from the code's answer
+pub ends_is : (v step last : ℤ) → advance_of v step last ≡ None → passes step (v +ℤ step) last ≡ true
+unfolding advance_of
+ends_is v step last e = by (passes step (v +ℤ step) last) e
+  where
+    by : (d : Bool) → cond d None (Some (v +ℤ step)) ≡ None → d ≡ true
+    by true e = refl
+    by false e = clash (cc)
+
+pub steps_is : (v step last x : ℤ) → advance_of v step last ≡ Some x → (passes step (v +ℤ step) last ≡ false) × (v +ℤ step ≡ x)
+unfolding advance_of
+steps_is v step last x e = by (passes step (v +ℤ step) last) e
+  where
+    by : (d : Bool) → cond d None (Some (v +ℤ step)) ≡ Some x → (d ≡ false) × (v +ℤ step ≡ x)
+    by true e = clash (cc)
+    by false e = (refl, cc)
+
+-- what is asked of three numbers is asked of the same
+pub same3 : {A : Type 0} (f : ℤ → ℤ → ℤ → A) {x y z u v w : ℤ} → x ≡ u → y ≡ v → z ≡ w → f x y z ≡ f u v w
+same3 f p q r = rw (p, q, r)

@@ -3,4 +3,3 @@ pub mod Stack
 pub mod Counting
 pub mod Moves
 pub mod Ticks
-pub mod Advances

@@ -1,6 +1,6 @@
 -- Laws of what each instruction makes of a machine: one for each way that it can go. Assumes nothing.
 use mathlib.Core.Path.{◌≡◌, refl, sym, ap, ◌∙◌}
-use mathlib.Core.Bool.{Bool, true, false, ◌||◌}
+use mathlib.Core.Bool.{Bool, true, false}
 use mathlib.Core.List.{List, [], ◌∷◌}
 use Prim.Native.Nat.{ℕ, ◌+◌, ◌≤◌, ◌<◌}
 use native.Mathlib.Omega.{arith}
@@ -13,11 +13,16 @@ use Rattle.rules.specs.Numbers.{Ty, dint, between, holds, of_bool, is_zero}
 use Rattle.rules.specs.Core.{Un, Bin}
 use Rattle.rules.specs.Meaning.{Ev, val, stop, ill, unop, binop, load, storable, load_d, passes}
 use Rattle.rules.specs.Codes.{Instr, TICK, CONST, LOAD, STORE, UN, BIN, JUMP, JZ, JNZ, SPAN, DROP, HOLD, FIRST, NEXT, HALT, BAD, decode}
-use Rattle.rules.specs.Machine.{state, end, is_tick, push_e, Code, ok_jump, jump_to, push, push_r, first_on, next_on, act, step, code_in}
+use Rattle.rules.specs.Machine.{state, end, push_e, Code, ok_jump, jump_to, push, push_r, first_on, next_on, act, step, code_in}
 use Rattle.codes.specs.declared.Loop.{Loop}
-use Rattle.machine.specs.Stepping.{View, After, view, over, ticked, holding, pushed, top_of, below, popped, halted, off, on, only, after, does, stepped, branch_of, taken, may_count}
+use Rattle.std.specs.Prelude.{Result, Ok, Err}
+use Rattle.arith.specs.Exact.{stop_of as trap_of}
+use Rattle.arith.specs.declared.Trap.{Trap}
+use Rattle.arith.specs.declared.Trap.TheVariants.{Range as TrapRange, Divide as TrapDivide, Bad}
+use Rattle.machine.specs.Stepping.{View, After, view, move, over, ticked, holding, pushed, top_of, below, popped, halted, off, on, only, after, does, stepped, stop_for, branch_of, taken, may_count, may_land, Jumps}
 use Rattle.machine.specs.declared.Machine.{Machine}
 use Rattle.machine.proofs.Counting.{Allowed, allowed, loaded, unloaded}
+use Rattle.machine.specs.declared.Stop.{Stop}
 use Rattle.machine.specs.declared.Stop.TheVariants.{Done, Spent, Broken}
 
 -- ---- the stack
@@ -53,10 +58,6 @@ module _ (Γ : List Ty) (code : List ℕ) (b : ℕ) (s : View) (t : List ℤ) wh
   pub halts : only t (halted Done s) ≡ does c b HALT s t
   unfolding does act after
   halts = refl
-
-  pub bad : only t (halted Broken s) ≡ does c b BAD s t
-  unfolding does act after
-  bad = refl
 
   -- ---- a push
   pub put_on : (n : ℕ) (v : ℤ) → length s.stack < stack_limit → only t (on n (pushed v s)) ≡ after b s t (push c v (s.at + n) s.stack s.held t)
@@ -142,6 +143,12 @@ module _ (Γ : List Ty) (code : List ℕ) (b : ℕ) (s : View) (t : List ℤ) wh
   unfolding after push_e
   answer_on v l = refl
 
+  pub answer_out : (e : Trap) (l : List ℤ) → only t (halted (stop_for e) s) ≡ after b s t (push_e (stop (trap_of e)) (s.at + 1) l s.held t)
+  unfolding after push_e
+  answer_out TrapRange l = refl
+  answer_out TrapDivide l = refl
+  answer_out Bad l = refl
+
   pub unary_on : (o : Un) → 1 ≤ length s.stack → after b s t (push_e (unop o (top_of s.stack)) (s.at + 1) (below s.stack) s.held t) ≡ does c b (UN o) s t
   unfolding act
   unary_on o h = one (UN o) h
@@ -171,11 +178,11 @@ module _ (Γ : List Ty) (code : List ℕ) (b : ℕ) (s : View) (t : List ℤ) wh
   binary_out o h = short o s.stack h
 
   -- ---- jumps
-  pub go_on : (to : ℕ) (l : List ℤ) (u : List ℤ) → (ltb s.at to || is_tick (decode (drop to code))) ≡ true → only u (off to (over l s)) ≡ after b s t (jump_to c s.at to l s.held u)
+  pub go_on : (to : ℕ) (l : List ℤ) (u : List ℤ) → may_land code s.at to ≡ true → only u (off to (over l s)) ≡ after b s t (jump_to c s.at to l s.held u)
   unfolding jump_to ok_jump after code_in
   go_on to l u e = rw (e, jump_to, ok_jump, after)
 
-  pub go_out : (to : ℕ) (l : List ℤ) (u : List ℤ) → (ltb s.at to || is_tick (decode (drop to code))) ≡ false → only t (halted Broken s) ≡ after b s t (jump_to c s.at to l s.held u)
+  pub go_out : (to : ℕ) (l : List ℤ) (u : List ℤ) → may_land code s.at to ≡ false → only t (halted Broken s) ≡ after b s t (jump_to c s.at to l s.held u)
   unfolding jump_to ok_jump after code_in
   go_out to l u e = rw (e, jump_to, ok_jump, after)
 
@@ -255,6 +262,12 @@ module _ (Γ : List Ty) (code : List ℕ) (b : ℕ) (s : View) (t : List ℤ) wh
     unfolding does act next_on code_in after
     next_on_lem e f = let g = allowed Γ t l.level l.slot l.step e in rw (held g, loaded Γ t l.level l.slot l.step g, f, does, act, next_on, after)
 
+-- a jump, if it may land there
+pub jumps : (code : List ℕ) (m : Machine) (r : Result Machine Stop) (a : ℕ) → Jumps code r a m → (Γ : List Ty) (b : ℕ) (t : List ℤ)
+    → only t (move m r) ≡ after b (view m) t (jump_to (code_in Γ code stack_limit) m.at a (view m).stack m.held t)
+jumps code m (Ok n) a j Γ b t = rw j.1 (go_on Γ code b (view m) t a (view m).stack t j.0)
+jumps code m (Err k) a j Γ b t = rw j.1 (go_out Γ code b (view m) t a (view m).stack t j.0)
+
 -- ---- a whole step
 module _ (Γ : List Ty) (code : List ℕ) (b : ℕ) (m : Machine) (t : List ℤ) where
   abbrev whole : Code
@@ -264,9 +277,13 @@ module _ (Γ : List Ty) (code : List ℕ) (b : ℕ) (m : Machine) (t : List ℤ)
   unfolding stepped
   step_high h = rw (lt-leb m.height stack_limit h)
 
-  pub step_out : m.height ≤ stack_limit → length code ≤ m.at → only t (halted Broken (view m)) ≡ stepped whole b m t
-  unfolding stepped step after code_in
-  step_out k h = rw (le-leb m.height stack_limit k, le-ltb m.at (length code) h, step, after)
+  pub step_none : m.height ≤ stack_limit → BAD ≡ decode (drop m.at code) → only t (halted Broken (view m)) ≡ stepped whole b m t
+  unfolding stepped step act after code_in
+  step_none k h = rw (le-leb m.height stack_limit k, step) (by (ltb m.at (length code)))
+    where
+      by : (d : Bool) → only t (halted Broken (view m)) ≡ after b (view m) t (elim d [ true ↦ act whole (decode (drop m.at code)) m.at (view m).stack m.held t | false ↦ end ill ])
+      by true = rw (← h)
+      by false = refl
 
   pub step_is : {a : After} {i : Instr} → m.height ≤ stack_limit → m.at < length code
       → a ≡ does whole b i (view m) t → i ≡ decode (drop m.at code) → a ≡ stepped whole b m t

@@ -1,6 +1,6 @@
 -- The stack as a list, top first: what a push, a pop and a read at the top make of it. Assumes nothing.
-use mathlib.Core.Path.{◌≡◌, refl, sym, ap, ◌∙◌}
-use mathlib.Core.List.{List, ◌∷◌}
+use mathlib.Core.Path.{◌≡◌, refl, ap, ◌∙◌}
+use mathlib.Core.List.{List, [], ◌∷◌}
 use Prim.Native.Nat.{ℕ, zero, suc, ◌+◌, ◌-◌, ◌≤◌, ◌<◌}
 use native.Mathlib.Numerals.{add-one}
 use native.Mathlib.Omega.{arith}
@@ -16,7 +16,10 @@ use Rattle.rules.specs.Numbers.{between}
 use Rattle.rules.specs.Core.{Bin}
 use Rattle.rules.specs.Meaning.{Ev, binop}
 use Rattle.rules.specs.Machine.{push_e}
-use Rattle.machine.specs.Stepping.{View, down, over, holding, pushed, top_of, below, after}
+use Rattle.std.specs.Prelude.{Result, Ok, Err, IsErrAnd}
+use Rattle.rules.specs.Meaning.{Table}
+use Rattle.machine.specs.Stepping.{View, down, holding, pushed, top_of, below, only, going, after}
+use Rattle.machine.specs.declared.Stop.{Stop}
 
 pub down_set : (xs : List ℤ) (n k : ℕ) (v : ℤ) → n ≤ k → down (set xs k v) n ≡ down xs n
 down_set xs zero k v h = refl
@@ -31,13 +34,15 @@ down_push xs k v h = rw (add-one k, get_or-set_same xs k v (pos 0) h, down_set x
 less : (n : ℕ) → suc n - 1 ≡ n
 less n = omega arith
 
-pub down_pop : (xs : List ℤ) (h : ℕ) → 0 < h → down xs (h - 1) ≡ below (down xs h)
-down_pop xs zero p = refl
-down_pop xs (suc n) p = ap (down xs) (less n)
+pub down_at : (xs : List ℤ) (h d : ℕ) → d < h → get_or xs (h - 1 - d) (pos 0) ≡ get_or (down xs h) d (pos 0)
+down_at xs zero d p = absurd (omega arith)
+down_at xs (suc n) zero p = ap (λ (i : ℕ). get_or xs i (pos 0)) (let e : suc n - 1 - 0 ≡ n = omega arith in e)
+down_at xs (suc n) (suc d) p = ap (λ (i : ℕ). get_or xs i (pos 0)) (let e : suc n - 1 - suc d ≡ n - 1 - d = omega arith in e) ∙ down_at xs n d (omega arith)
 
-pub down_top : (xs : List ℤ) (h : ℕ) → 0 < h → get_or xs (h - 1) (pos 0) ≡ top_of (down xs h)
-down_top xs zero p = let z : ⊥ = omega arith in absurd z
-down_top xs (suc n) p = ap (λ (i : ℕ). get_or xs i (pos 0)) (less n)
+-- the second value is the top of what is below the first
+pub second : (s : List ℤ) → get_or s 1 (pos 0) ≡ top_of (below s)
+second [] = refl
+second (z ∷ s) = refl
 
 pub down_length : (xs : List ℤ) (h : ℕ) → length (down xs h) ≡ h
 down_length xs zero = refl
@@ -52,19 +57,24 @@ pub pushed_same : {u v : ℤ} {s t : View} → u ≡ v → s ≡ t → pushed u 
 pushed_same p q = rw (p, q)
 
 -- how high the stack is, as the list
-pub deep : (xs : List ℤ) (h n : ℕ) → n ≤ h → n ≤ length (down xs h)
-deep xs h n p = rw (down_length xs h) p
+pub deep : (xs : List ℤ) (h n : ℕ) → n < h → suc n ≤ length (down xs h)
+deep xs h n p = rw (down_length xs h) (omega arith)
 
-pub shallow : (xs : List ℤ) (h n : ℕ) → h < n → length (down xs h) < n
-shallow xs h n p = rw (down_length xs h) p
+pub shallow : (xs : List ℤ) (h n : ℕ) → h ≤ n → length (down xs h) < suc n
+shallow xs h n p = rw (down_length xs h) (omega arith)
+
+-- a call's error is the run's
+pub ended : {A : Type 0} (r : Result A Stop) {e : Stop} (k : Stop) → IsErrAnd r (λ s. s ≡ e) → e ≡ k → r ≡ Err k
+ended (Ok u) k h p = absurd h
+ended (Err s) k h p = ap Err (h ∙ p)
+
+-- what goes on from the same goes on to the same
+pub moved : (t : Table) {u w : View} → u ≡ w → only t (going u) ≡ only t (going w)
+moved t e = ap (λ (w : View). only t (going w)) e
 
 -- a machine that is another but for its stack may go on
 pub still : {u v : View} (n : ℕ) → u ≡ v → v.at + n < 18446744073709551616 → u.at + n < 18446744073709551616
 still n e h = rw (ap (λ (v : View). v.at) e) h
-
--- a machine that is another with a stack l is that other with its own stack
-pub under : (l : List ℤ) (s : View) {u : View} → u ≡ over l s → u ≡ over u.stack s
-under l s e = e ∙ ap (λ (k : List ℤ). over k s) (sym (ap (λ (s : View). s.stack) e))
 
 -- the same of equal parts
 pub answer_same : (b : ℕ) (t : List ℤ) (s : View) {e f : Ev} {l k : List ℤ} → e ≡ f → l ≡ k → after b s t (push_e e (s.at + 1) l s.held t) ≡ after b s t (push_e f (s.at + 1) k s.held t)

@@ -1,18 +1,18 @@
 -- The machine that the code holds, seen as a state of the rules; and what a step of the rules makes of it.
-use Rattle.std.specs.Prelude.{◌≡◌, Bool, true, false, not, ◌&&◌, List, [], ◌∷◌, ℕ, zero, suc, ◌+◌, ◌≤◌, ◌<◌, ltb, leb, ℤ, pos, length, get_or, set, replicate}
+use Rattle.std.specs.Prelude.{◌≡◌, Bool, true, false, not, ◌&&◌, ◌||◌, Option, None, Some, Result, Ok, Err, List, [], ◌∷◌, ℕ, zero, suc, ◌+◌, ◌≤◌, ◌<◌, ltb, leb, ℤ, pos, length, get_or, set, drop, replicate}
 use Rattle.rules.specs.Limits.{stack_limit, for_limit}
 use Rattle.rules.specs.Base.{pick}
 use Rattle.rules.specs.Numbers.{Ty, dint, is_dint, is_zero}
-use Rattle.rules.specs.Codes.{Instr, TICK, STORE, JZ, JNZ}
+use Rattle.rules.specs.Codes.{Instr, TICK, STORE, JZ, JNZ, decode}
 use Rattle.rules.specs.Meaning.{Table, Stop as End, done, spent, range, divide, ill}
-use Rattle.rules.specs.Machine.{state, Step as Deed, on as goOn, tk, end, push_e, Code, jump_to, push, act, step, code_in}
-use Rattle.arith.specs.Exact.{ev_of}
-use Rattle.arith.specs.declared.Answer.{Answer}
+use Rattle.rules.specs.Machine.{state, Step as Deed, on as goOn, tk, end, Code, is_tick, push, act, step, code_in}
+use Rattle.arith.specs.declared.Trap.{Trap}
+use Rattle.arith.specs.declared.Trap.TheVariants.{Range as TrapRange, Divide as TrapDivide, Bad}
 use Rattle.variables.specs.Slots.{types_in}
+use Rattle.codes.specs.declared.Loop.{Loop}
 use Rattle.machine.specs.declared.Machine.{Machine}
-use Rattle.machine.specs.declared.Step.{Step}
 use Rattle.machine.specs.declared.Stop.{Stop}
-use Rattle.machine.specs.declared.Stop.TheVariants.{Going, Done, Spent, Range, Divide, Broken}
+use Rattle.machine.specs.declared.Stop.TheVariants.{Done, Spent, Range, Divide, Broken}
 
 -- a machine's offset, its stack with the top first, its held final values, and the ticks it has taken
 pub record View : Type 0 where
@@ -29,13 +29,15 @@ down xs (suc n) = get_or xs n (pos 0) ∷ down xs n
 abbrev pub view : Machine → View
 view m = record { at = m.at; stack = down m.stack m.height; held = m.held; ticks = m.ticks }
 
--- what an instruction makes of a machine: the next one, and how the run stands
+-- what an instruction makes of a machine: the machine afterwards, and the stop if the run ends
 pub record Move : Type 0 where
   pub next : View
-  pub stop : Stop
+  pub stop : Option Stop
 
-abbrev pub move : Step → Move
-move r = record { next = view r.next; stop = r.stop }
+-- a stop leaves the machine as it was
+abbrev pub move : Machine → Result Machine Stop → Move
+move m (Ok n) = record { next = view n; stop = None }
+move m (Err k) = record { next = view m; stop = Some k }
 
 -- and of the table
 pub record After : Type 0 where
@@ -62,8 +64,7 @@ pushed z v = over (z ∷ v.stack) v
 
 -- the value on top, and what is below it
 abbrev pub top_of : List ℤ → ℤ
-top_of [] = pos 0
-top_of (z ∷ s) = z
+top_of s = get_or s 0 (pos 0)
 
 abbrev pub below : List ℤ → List ℤ
 below [] = []
@@ -76,14 +77,23 @@ popped v = over (below v.stack) v
 
 -- the instruction does nothing, and the run ends
 abbrev pub halted : Stop → View → Move
-halted k v = record { next = v; stop = k }
+halted k v = record { next = v; stop = Some k }
 
 -- it is done: the machine is at p next; n bytes on
+abbrev pub leapt : ℕ → View → View
+leapt p v = record { at = p; stack = v.stack; held = v.held; ticks = v.ticks }
+
+abbrev pub ahead : ℕ → View → View
+ahead n v = leapt (v.at + n) v
+
+abbrev pub going : View → Move
+going v = record { next = v; stop = None }
+
 abbrev pub off : ℕ → View → Move
-off p v = record { next = record { at = p; stack = v.stack; held = v.held; ticks = v.ticks }; stop = Going }
+off p v = going (leapt p v)
 
 abbrev pub on : ℕ → View → Move
-on n v = off (v.at + n) v
+on n v = going (ahead n v)
 
 -- The rules' step
 
@@ -93,6 +103,12 @@ stop_of spent = Spent
 stop_of range = Range
 stop_of divide = Divide
 stop_of ill = Broken
+
+-- the stop of an operator without a value
+abbrev pub stop_for : Trap → Stop
+stop_for TrapRange = Range
+stop_for TrapDivide = Divide
+stop_for Bad = Broken
 
 -- what the rules' step leaves, with the ticks: one is taken if the budget has it, else the run is spent
 unfoldable pub after : ℕ → View → Table → Deed → After
@@ -110,40 +126,45 @@ stepped c budget m t =
     (λ _. after budget (view m) t (step c (state m.at (view m).stack m.held t)))
     (λ _. only t (halted Broken (view m)))
 
--- The promises of the parts, each of what it needs and of everything else whatever it is
+-- The promises of the parts, each of what it needs and of everything else whatever it is: m is the machine before, r the answer
 
 -- what the instruction i does: whatever code and table; in this code; on this table; TICK, STORE; FIRST and NEXT
-abbrev pub Does : Step → Instr → Machine → Type 0
-Does r i m = (Γ : List Ty) (code : List ℕ) (budget : ℕ) (t : Table) → only t (move r) ≡ does (code_in Γ code stack_limit) budget i (view m) t
+abbrev pub Does : Result Machine Stop → Instr → Machine → Type 0
+Does r i m = (Γ : List Ty) (code : List ℕ) (budget : ℕ) (t : Table) → only t (move m r) ≡ does (code_in Γ code stack_limit) budget i (view m) t
 
-abbrev pub DoesIn : List ℕ → Step → Instr → Machine → Type 0
-DoesIn code r i m = (Γ : List Ty) (budget : ℕ) (t : Table) → only t (move r) ≡ does (code_in Γ code stack_limit) budget i (view m) t
+abbrev pub DoesIn : List ℕ → Result Machine Stop → Instr → Machine → Type 0
+DoesIn code r i m = (Γ : List Ty) (budget : ℕ) (t : Table) → only t (move m r) ≡ does (code_in Γ code stack_limit) budget i (view m) t
 
-abbrev pub DoesOn : Table → Step → Instr → Machine → Type 0
-DoesOn t r i m = (Γ : List Ty) (code : List ℕ) (budget : ℕ) → only t (move r) ≡ does (code_in Γ code stack_limit) budget i (view m) t
+abbrev pub DoesOn : Table → Result Machine Stop → Instr → Machine → Type 0
+DoesOn t r i m = (Γ : List Ty) (code : List ℕ) (budget : ℕ) → only t (move m r) ≡ does (code_in Γ code stack_limit) budget i (view m) t
 
-abbrev pub Ticks : ℕ → Step → Machine → Type 0
-Ticks budget r m = (Γ : List Ty) (code : List ℕ) (t : Table) → only t (move r) ≡ does (code_in Γ code stack_limit) budget TICK (view m) t
+abbrev pub Ticks : ℕ → Result Machine Stop → Machine → Type 0
+Ticks budget r m = (Γ : List Ty) (code : List ℕ) (t : Table) → only t (move m r) ≡ does (code_in Γ code stack_limit) budget TICK (view m) t
 
-abbrev pub Stores : List ℕ → Table → Table → Step → ℕ → Machine → Type 0
-Stores vars t u r slot m = (code : List ℕ) (budget : ℕ) → only u (move r) ≡ does (code_in (types_in vars) code stack_limit) budget (STORE slot) (view m) t
+abbrev pub Stores : List ℕ → Table → Table → Result Machine Stop → ℕ → Machine → Type 0
+Stores vars t u r slot m = (code : List ℕ) (budget : ℕ) → only u (move m r) ≡ does (code_in (types_in vars) code stack_limit) budget (STORE slot) (view m) t
 
-abbrev pub Turns : List ℕ → List ℕ → Table → Table → Step → Instr → Machine → Type 0
-Turns vars code t u r i m = (budget : ℕ) → only u (move r) ≡ does (code_in (types_in vars) code stack_limit) budget i (view m) t
+abbrev pub Turns : List ℕ → List ℕ → Table → Table → Result Machine Stop → Instr → Machine → Type 0
+Turns vars code t u r i m = (budget : ℕ) → only u (move m r) ≡ does (code_in (types_in vars) code stack_limit) budget i (view m) t
 
--- a push, a jump with the stack of `low`, and an operator's answer on the stack of `low`
-abbrev pub Puts : Step → ℕ → ℤ → Machine → Type 0
-Puts r n z m =
+-- a push, if there is room
+abbrev pub Puts : Result Machine Stop → ℕ → ℤ → Machine → Type 0
+Puts r bytes z m =
     (Γ : List Ty) (code : List ℕ) (budget : ℕ) (t : Table) →
-    only t (move r) ≡ after budget (view m) t (push (code_in Γ code stack_limit) z (m.at + n) (view m).stack m.held t)
+    only t (move m r) ≡ after budget (view m) t (push (code_in Γ code stack_limit) z (m.at + bytes) (view m).stack m.held t)
 
-abbrev pub Goes : List ℕ → Step → ℕ → Machine → Machine → Type 0
-Goes code r a m low =
-    (Γ : List Ty) (budget : ℕ) (t : Table) →
-    only t (move r) ≡ after budget (view m) t (jump_to (code_in Γ code stack_limit) m.at a (view low).stack m.held t)
+-- a jump, if it may land there
+abbrev pub may_land : List ℕ → ℕ → ℕ → Bool
+may_land code at target = ltb at target || is_tick (decode (drop target code))
 
-abbrev pub Answers : Step → Answer → Machine → Machine → Type 0
-Answers r a m low = (budget : ℕ) (t : Table) → only t (move r) ≡ after budget (view m) t (push_e (ev_of a) (m.at + 1) (view low).stack m.held t)
+abbrev pub Jumps : List ℕ → Result Machine Stop → ℕ → Machine → Type 0
+Jumps code (Ok n) a m = (may_land code m.at a ≡ true) × (view n ≡ leapt a (view m)) × (n.height ≡ m.height)
+Jumps code (Err k) a m = (may_land code m.at a ≡ false) × (k ≡ Broken)
+
+-- the value so many below the top, or nothing is there
+abbrev pub Shows : Result ℤ Stop → ℕ → Machine → Type 0
+Shows (Ok v) depth m = (depth < m.height) × (v ≡ get_or (view m).stack depth (pos 0))
+Shows (Err k) depth m = (m.height ≤ depth) × (k ≡ Broken)
 
 -- the two branches, and whether one is taken at a value that is zero or not
 abbrev pub branch_of : Bool → ℕ → Instr
@@ -167,7 +188,13 @@ pub record Ready (n : ℕ) (m : Machine) : Type 0 where
   pub height : m.height ≤ stack_limit
   pub at : m.at + n < 18446744073709551616
 
--- the machine m but for its stack, which is shorter
-pub record Under (low m : Machine) : Type 0 where
-  pub height : low.height < m.height
-  pub same : view low ≡ over (view low).stack (view m)
+-- the variable and the final value of a loop, or there are none
+pub record Counted (Γ : List Ty) (t : Table) (l : Loop) (m : Machine) (v last : ℤ) : Type 0 where
+  pub may : may_count Γ t l.level l.slot l.step ≡ true
+  pub slot : l.slot < length t
+  pub value : v ≡ get_or t l.slot (pos 0)
+  pub final : last ≡ get_or m.held l.level (pos 0)
+
+abbrev pub Counts : List ℕ → Table → Result (ℤ × ℤ) Stop → Loop → Machine → Type 0
+Counts vars t (Ok p) l m = Counted (types_in vars) t l m p.0 p.1
+Counts vars t (Err k) l m = (may_count (types_in vars) t l.level l.slot l.step ≡ false) × (k ≡ Broken)

@@ -1,4 +1,4 @@
-// The machine by value: its stack and held final values are its own, and each instruction gives the next machine.
+// The machine by value: its stack and held final values are its own, and each instruction gives the next machine, or why the run ends.
 #![tactic(auto)]
 
 ghost use Rattle.std.specs.Prelude.{◌||◌, ◌≡◌, ◌+◌, ◌-◌, ◌≤◌, ◌<◌, ltb, drop};
@@ -8,13 +8,13 @@ ghost use Rattle.rules.specs.Machine.{is_tick, code_in};
 ghost use Rattle.rules.specs.Numbers.{is_zero};
 ghost use Rattle.codes.specs.Table.{un_of, bin_of, instr_of};
 ghost use Rattle.variables.specs.Slots.{types_in};
-ghost use Rattle.machine.specs.Stepping.{view, move, only, over, holding, pushed, top_of, popped, halted, off, on, does, stepped, Does, DoesIn, DoesOn, Ticks, Stores, Turns, Puts, Goes, Answers, branch_of, taken, may_count, fresh, Ready, Under};
+ghost use Rattle.machine.specs.Stepping.{view, move, only, holding, pushed, popped, ahead, does, stepped, stop_for, Does, DoesIn, DoesOn, Ticks, Stores, Turns, Puts, Jumps, Shows, Counts, branch_of, taken, may_count, fresh, Ready};
 
-use arith::Answer;
+use arith::Trap;
 use codes::{Instruction, Loop, Operator, Prefix};
-use compare::Advance;
 use rules::Limits;
 
+// That the height is within the limit is no invariant of the type, and the stack no vector of that capacity: `step` answers for any height.
 #[derive(Clone, Copy)]
 pub struct Machine {
     pub stack: [i32; Machine::STACK],
@@ -24,10 +24,9 @@ pub struct Machine {
     pub ticks: u32,
 }
 
-// How a run stands after an instruction.
-#[derive(Clone, Copy)]
+// Why a run ends.
+#[derive(Clone, Copy, PartialEq, Eq)]
 pub enum Stop {
-    Going,
     Done,
     Spent,
     Range,
@@ -35,11 +34,16 @@ pub enum Stop {
     Broken,
 }
 
-// The next machine, and how the run stands. An instruction that ends a run leaves the machine as it was.
-#[derive(Drop)]
-pub struct Step {
-    pub next: Machine,
-    pub stop: Stop,
+impl From<Trap> for Stop {
+    ghost from_gives = { λ t s. s ≡ stop_for t };
+
+    fn from(trap: Trap) -> Stop {
+        match trap {
+            Trap::Range => Stop::Range,
+            Trap::Divide => Stop::Divide,
+            Trap::Bad => Stop::Broken,
+        }
+    }
 }
 
 impl Machine {
@@ -62,286 +66,203 @@ impl Machine {
 
     fn push(self, v: i32) -> Self
         requires { self.height < stack_limit }
-        ensures { (view result ≡ pushed v (view self)) × (result.height ≡ self.height + 1) }
+        ensures view { view result ≡ pushed v (view self) }
+        ensures height { result.height ≡ self.height + 1 }
     {
-        let h = self.height;
         let mut next = self;
-        next.stack[h] = v;
-        next.height = h + 1;
+        next.stack[self.height] = v;
+        next.height += 1;
         next
-    }
-
-    fn top(self) -> i32
-        requires { (0 < self.height) × (self.height ≤ stack_limit) }
-        ensures { result ≡ top_of (view self).stack }
-    {
-        let h = self.height;
-        let s = self.stack;
-        s[h - 1]
     }
 
     fn pop(self) -> Self
         requires { 0 < self.height }
-        ensures { (view result ≡ popped (view self)) × (result.height ≡ self.height - 1) }
+        ensures view { view result ≡ popped (view self) }
+        ensures height { result.height ≡ self.height - 1 }
     {
-        let h = self.height;
-        let mut next = self;
-        next.height = h - 1;
-        next
+        let height = self.height - 1;
+        Machine { height, ..self }
+    }
+
+    // The value that lies so many below the top.
+    fn operand(&self, depth: usize) -> Result<i32, Stop>
+        requires { self.now.height ≤ stack_limit }
+        ensures { Shows result depth self.now }
+    {
+        if self.height <= depth {
+            return Err(Stop::Broken);
+        }
+        Ok(self.stack[self.height - 1 - depth])
     }
 
     fn hold(self, level: usize, v: i32) -> Self
         requires { level < for_limit }
-        ensures { (view result ≡ holding level v (view self)) × (result.height ≡ self.height) }
+        ensures view { view result ≡ holding level v (view self) }
     {
         let mut next = self;
         next.held[level] = v;
         next
     }
 
-    // The instruction does nothing, and the run ends.
-    fn halt(self, stop: Stop) -> Step
-        ensures { move result ≡ halted stop (view self) }
-    {
-        Step { next: self, stop }
-    }
-
-    // At `target` next.
-    fn leap(self, target: usize) -> Step
-        ensures { move result ≡ off target (view self) }
-    {
-        let mut next = self;
-        next.at = target;
-        Step {
-            next,
-            stop: Stop::Going,
-        }
-    }
-
     // n bytes on.
-    fn advance(self, n: usize) -> Step
+    fn advance(self, n: usize) -> Self
         requires { self.at + n < 18446744073709551616 }
-        ensures { move result ≡ on n (view self) }
+        ensures view { view result ≡ ahead n (view self) }
+        ensures height { result.height ≡ self.height }
     {
-        let at = self.at;
-        self.leap(at + n)
+        let at = self.at + n;
+        Machine { at, ..self }
     }
 
-    fn tick(self, budget: u32) -> Step
+    fn tick(self, budget: u32) -> Result<Self, Stop>
         requires { Ready 1 self }
         ensures { Ticks budget result self }
     {
-        let ticks = self.ticks;
-        if ticks < budget {
-            let mut next = self;
-            next.ticks = ticks + 1;
-            next.advance(1)
-        } else {
-            self.halt(Stop::Spent)
+        if budget <= self.ticks {
+            return Err(Stop::Spent);
         }
+        let ticks = self.ticks + 1;
+        Ok(Machine { ticks, ..self }.advance(1))
     }
 
     // A value is pushed, if there is room.
-    fn put(self, n: usize, v: i32) -> Step
+    fn put(self, n: usize, v: i32) -> Result<Self, Stop>
         requires { Ready n self }
         ensures { Puts result n v self }
     {
-        let h = self.height;
-        if h < Machine::STACK {
-            self.push(v).advance(n)
-        } else {
-            self.halt(Stop::Broken)
+        if Machine::STACK <= self.height {
+            return Err(Stop::Broken);
         }
+        Ok(self.push(v).advance(n))
     }
 
-    fn constant(self, v: i32) -> Step
-        requires { Ready 5 self }
-        ensures { Does result (CONST v) self }
-    {
-        self.put(5, v)
-    }
-
-    fn load(self, table: &[i32], slot: usize) -> Step
+    fn load(self, table: &[i32], slot: usize) -> Result<Self, Stop>
         requires { Ready 2 self }
         ensures { DoesOn table.now result (LOAD slot) self }
     {
-        if slot < table.len() {
-            self.put(2, table[slot])
-        } else {
-            self.halt(Stop::Broken)
+        if table.len() <= slot {
+            return Err(Stop::Broken);
         }
+        self.put(2, table[slot])
     }
 
-    fn store(self, vars: &[u8], table: &mut [i32], slot: usize) -> Step
+    fn store(self, vars: &[u8], table: &mut [i32], slot: usize) -> Result<Self, Stop>
         requires { Ready 2 self }
         ensures { Stores vars.now table.old table.new result slot self }
     {
-        let h = self.height;
-        if h < 1 {
-            return self.halt(Stop::Broken);
-        }
-        let v = self.top();
+        let v = self.operand(0)?;
         if table.len() <= slot {
-            return self.halt(Stop::Broken);
+            return Err(Stop::Broken);
         }
-        if variables::may_hold(vars, slot, v) {
-            table[slot] = v;
-            return self.pop().advance(2);
+        if !variables::may_hold(vars, slot, v) {
+            return Err(Stop::Broken);
         }
-        self.halt(Stop::Broken)
+        table[slot] = v;
+        Ok(self.pop().advance(2))
     }
 
-    // An operator's answer goes on what is left of the stack.
-    fn answer(self, low: Machine, a: Answer) -> Step
-        requires { (Ready 1 self) × (Under low self) }
-        ensures { Answers result a self low }
-    {
-        match a {
-            Answer::Value(v) => low.push(v).advance(1),
-            Answer::Range => self.halt(Stop::Range),
-            Answer::Divide => self.halt(Stop::Divide),
-            Answer::Bad => self.halt(Stop::Broken),
-        }
-    }
-
-    fn unary(self, o: Prefix) -> Step
+    fn unary(self, o: Prefix) -> Result<Self, Stop>
         requires { Ready 1 self }
         ensures { Does result (UN (un_of o)) self }
     {
-        let h = self.height;
-        if h < 1 {
-            return self.halt(Stop::Broken);
-        }
-        self.answer(self.pop(), operators::apply_prefix(o, self.top()))
+        let x = self.operand(0)?;
+        let v = operators::apply_prefix(o, x)?;
+        Ok(self.pop().push(v).advance(1))
     }
 
-    fn binary(self, o: Operator) -> Step
+    fn binary(self, o: Operator) -> Result<Self, Stop>
         requires { Ready 1 self }
         ensures { Does result (BIN (bin_of o)) self }
     {
-        let h = self.height;
-        if h < 2 {
-            return self.halt(Stop::Broken);
-        }
-        let right = self.top();
-        let low = self.pop();
-        let left = low.top();
-        self.answer(low.pop(), operators::apply(o, left, right))
+        let left = self.operand(1)?;
+        let right = self.operand(0)?;
+        let v = operators::apply(o, left, right)?;
+        Ok(self.pop().pop().push(v).advance(1))
     }
 
-    // To `target` with what is left of the stack, if a jump may land there.
-    fn go(self, low: Machine, code: &[u8], target: usize) -> Step
-        requires { view low ≡ over (view low).stack (view self) }
-        ensures { Goes code.now result target self low }
+    // To `target`, if a jump may land there.
+    fn jump(self, code: &[u8], target: usize) -> Result<Self, Stop>
+        ensures { Jumps code.now result target self }
     {
-        let at = self.at;
-        if may_jump(at, code, target) {
-            low.leap(target)
-        } else {
-            self.halt(Stop::Broken)
+        if !may_jump(self.at, code, target) {
+            return Err(Stop::Broken);
         }
-    }
-
-    fn jump(self, code: &[u8], target: usize) -> Step
-        ensures { DoesIn code.now result (JUMP target) self }
-    {
-        self.go(self, code, target)
+        Ok(Machine { at: target, ..self })
     }
 
     // A jump if the top is zero, or if it is not.
-    fn branch(self, code: &[u8], target: usize, zero: bool) -> Step
+    fn branch(self, code: &[u8], target: usize, zero: bool) -> Result<Self, Stop>
         requires { Ready 3 self }
         ensures { DoesIn code.now result (branch_of zero target) self }
     {
-        let h = self.height;
-        if h < 1 {
-            return self.halt(Stop::Broken);
+        let v = self.operand(0)?;
+        if !is_taken(zero, v) {
+            return Ok(self.pop().advance(3));
         }
-        if is_taken(zero, self.top()) {
-            self.go(self.pop(), code, target)
-        } else {
-            self.pop().advance(3)
-        }
+        let landed = self.jump(code, target)?;
+        Ok(landed.pop())
     }
 
-    fn span(self, lowest: i32, highest: i32) -> Step
+    fn span(self, lowest: i32, highest: i32) -> Result<Self, Stop>
         requires { Ready 9 self }
         ensures { Does result (SPAN lowest highest) self }
     {
-        let h = self.height;
-        if h < 1 {
-            return self.halt(Stop::Broken);
-        }
-        let v = self.top();
+        let v = self.operand(0)?;
         self.put(9, operators::flag(compare::within(lowest, highest, v)))
     }
 
-    fn discard(self) -> Step
+    fn discard(self) -> Result<Self, Stop>
         requires { Ready 1 self }
         ensures { Does result DROP self }
     {
-        let h = self.height;
-        if h < 1 {
-            return self.halt(Stop::Broken);
-        }
-        self.pop().advance(1)
+        self.operand(0)?;
+        Ok(self.pop().advance(1))
     }
 
-    fn keep(self, level: usize) -> Step
+    fn keep(self, level: usize) -> Result<Self, Stop>
         requires { Ready 2 self }
         ensures { Does result (HOLD level) self }
     {
-        let h = self.height;
-        if h < 1 {
-            return self.halt(Stop::Broken);
-        }
+        let v = self.operand(0)?;
         if Machine::HELD <= level {
-            return self.halt(Stop::Broken);
+            return Err(Stop::Broken);
         }
-        self.pop().hold(level, self.top()).advance(2)
+        Ok(self.pop().hold(level, v).advance(2))
     }
 
-    fn first(self, l: Loop, code: &[u8], vars: &[u8], table: &[i32]) -> Step
+    // The variable of FIRST and NEXT, and the final value that it counts to.
+    #[tactic(auto, using(crate::proofs::Counting::allowed))]
+    fn counted(&self, l: Loop, vars: &[u8], table: &[i32]) -> Result<(i32, i32), Stop>
+        ensures { Counts vars.now table.now result l self.now }
+    {
+        if !may_count(l, vars, table) {
+            return Err(Stop::Broken);
+        }
+        Ok((table[l.slot], self.held[l.level]))
+    }
+
+    fn first(self, l: Loop, code: &[u8], vars: &[u8], table: &[i32]) -> Result<Self, Stop>
         requires { Ready 9 self }
         ensures { Turns vars.now code.now table.now table.now result (FIRST l.level l.slot l.step l.to) self }
     {
-        let level = l.level;
-        let slot = l.slot;
-        let target = l.to;
-        let by = l.step;
-        if !may_count(l, vars, table) {
-            return self.halt(Stop::Broken);
+        let (v, last) = self.counted(l, vars, table)?;
+        if compare::passes(v, l.step, last) {
+            return self.jump(code, l.to);
         }
-        let held = self.held;
-        if compare::passes(table[slot], by, held[level]) {
-            self.go(self, code, target)
-        } else {
-            self.advance(9)
-        }
+        Ok(self.advance(9))
     }
 
-    fn next(self, l: Loop, code: &[u8], vars: &[u8], table: &mut [i32]) -> Step
+    fn next(self, l: Loop, code: &[u8], vars: &[u8], table: &mut [i32]) -> Result<Self, Stop>
         requires { Ready 9 self }
         ensures { Turns vars.now code.now table.old table.new result (NEXT l.level l.slot l.step l.to) self }
     {
-        let level = l.level;
-        let slot = l.slot;
-        let target = l.to;
-        let by = l.step;
-        if !may_count(l, vars, table) {
-            return self.halt(Stop::Broken);
-        }
-        let held = self.held;
-        let a = compare::advanced(table[slot], by, held[level]);
-        let Advance::Steps(v) = a else {
-            return self.advance(9);
+        let (v, last) = self.counted(l, vars, table)?;
+        let Some(next) = compare::advanced(v, l.step, last) else {
+            return Ok(self.advance(9));
         };
-        let at = self.at;
-        if may_jump(at, code, target) {
-            table[slot] = v;
-            return self.leap(target);
-        }
-        self.halt(Stop::Broken)
+        let landed = self.jump(code, l.to)?;
+        table[l.slot] = next;
+        Ok(landed)
     }
 
     // One instruction is carried out.
@@ -352,14 +273,13 @@ impl Machine {
         vars: &[u8],
         table: &mut [i32],
         budget: u32,
-    ) -> Step
+    ) -> Result<Self, Stop>
         requires { Ready (length_of (instr_of i)) self }
-        ensures { only table.new (move result) ≡ does (code_in (types_in vars.now) code.now stack_limit) budget (instr_of i) (view self) table.old }
+        ensures { only table.new (move self result) ≡ does (code_in (types_in vars.now) code.now stack_limit) budget (instr_of i) (view self) table.old }
     {
         match i {
-            Instruction::Bad => self.halt(Stop::Broken),
             Instruction::Tick => self.tick(budget),
-            Instruction::Const(v) => self.constant(v),
+            Instruction::Const(v) => self.put(5, v),
             Instruction::Load(slot) => self.load(table, slot),
             Instruction::Store(slot) => self.store(vars, table, slot),
             Instruction::Unary(o) => self.unary(o),
@@ -372,73 +292,62 @@ impl Machine {
             Instruction::Hold(level) => self.keep(level),
             Instruction::First(l) => self.first(l, code, vars, table),
             Instruction::Next(l) => self.next(l, code, vars, table),
-            Instruction::Halt => self.halt(Stop::Done),
+            Instruction::Halt => Err(Stop::Done),
         }
     }
 
-    // What stands at the machine's offset is carried out.
-    pub fn step(self, code: &[u8], vars: &[u8], table: &mut [i32], budget: u32) -> Step
-        ensures { only table.new (move result) ≡ stepped (code_in (types_in vars.now) code.now stack_limit) budget self table.old }
+    // What stands at the machine's offset is carried out. Where the run ends the machine is the one before.
+    pub fn step(
+        self,
+        code: &[u8],
+        vars: &[u8],
+        table: &mut [i32],
+        budget: u32,
+    ) -> Result<Self, Stop>
+        ensures { only table.new (move self result) ≡ stepped (code_in (types_in vars.now) code.now stack_limit) budget self table.old }
     {
-        let at = self.at;
         if Machine::STACK < self.height {
-            return self.halt(Stop::Broken);
+            return Err(Stop::Broken);
         }
-        if code.len() <= at {
-            return self.halt(Stop::Broken);
-        }
-        let i = codes::decode(code, at);
+        let Some(i) = codes::decode(code, self.at) else {
+            return Err(Stop::Broken);
+        };
         self.execute(i, code, vars, table, budget)
     }
 }
 
 // Whether a TICK stands there.
+#[tactic(auto, using(crate::proofs::Ticks::tick_there, crate::proofs::Ticks::none_there))]
 fn is_tick(code: &[u8], target: usize) -> bool
     ensures { result ≡ is_tick (decode (drop target code.now)) }
 {
-    if target < code.len() {
-        code[target] == 1
-    } else {
-        false
-    }
+    target < code.len() && code[target] == 1
 }
 
 // Whether a jump may land there: further on, or on a TICK.
 fn may_jump(at: usize, code: &[u8], target: usize) -> bool
     ensures { result ≡ (ltb at target || is_tick (decode (drop target code.now))) }
 {
-    if at < target {
-        return true;
-    }
-    is_tick(code, target)
+    at < target || is_tick(code, target)
 }
 
 // Whether FIRST and NEXT may count: the level and the slot are there, the variable is a DINT, and the step is not 0.
+#[tactic(auto, using(std::proofs::lemmas::Int::ints), unfolding(crate::specs::Stepping::may_count))]
 fn may_count(l: Loop, vars: &[u8], table: &[i32]) -> bool
     ensures { result ≡ may_count (types_in vars.now) table.now l.level l.slot l.step }
 {
-    let level = l.level;
-    let slot = l.slot;
-    let by = l.step;
-    if Machine::HELD <= level {
+    if Machine::HELD <= l.level {
         return false;
     }
-    if table.len() <= slot {
+    if table.len() <= l.slot {
         return false;
     }
-    if variables::is_dint(vars, slot) {
-        return !compare::is_zero(by);
-    }
-    false
+    variables::is_dint(vars, l.slot) && !compare::is_zero(l.step)
 }
 
 // Whether a branch is taken at this value.
 fn is_taken(zero: bool, v: i32) -> bool
     ensures { result ≡ taken zero (is_zero v) }
 {
-    if zero {
-        compare::is_zero(v)
-    } else {
-        !compare::is_zero(v)
-    }
+    compare::is_zero(v) == zero
 }

@@ -1,13 +1,6 @@
 -- Two spellings, letter by letter.
-use mathlib.Core.Path.{◌≡◌, refl, ap, ◌∙◌}
-use mathlib.Core.Bool.{Bool, true, false}
-use mathlib.Core.List.{List}
-use Prim.Native.Nat.{ℕ, zero, suc, ◌+◌, ◌-◌, ◌≤◌, ◌<◌}
-use native.Mathlib.Nat.{add-zero, sub-zero}
-use native.Mathlib.Omega.{arith}
-use lib.Dec.{eqb}
-use lib.ListN.{get_or}
-use borrow.Author.Tests.{eq-eqb, ne_eqb}
+use Rattle.std.proofs.Common.{◌≡◌, refl, ap, Bool, true, false, ◌&&◌, List, ℕ, suc, zero, ◌+◌, eqb, get_or, arith, add-zero}
+use Rattle.std.specs.List.{list_all, range_with_len}
 use Rattle.rules.specs.Base.{pick, same}
 use Rattle.rules.specs.Tokens.{upper}
 use Rattle.names.specs.Rows.{spelling}
@@ -24,36 +17,22 @@ unlike t a b (suc n) (suc k) h = either (eqb (upper (get_or t a 0)) (upper (get_
     either true e = e
     either false e = refl
 
--- n letters from two places on
-module _ (t : List ℕ) (a b n : ℕ) where
-  -- whether they are alike behind the first j
+-- those of one length are the same if each letter is
+module _ (t : List ℕ) (a b : ℕ) where
   abbrev pub alike : ℕ → Bool
-  alike j = same (spelling t (a + j) (n - j)) (spelling t (b + j) (n - j))
+  alike k = eqb (upper (get_or t (a + k) 0)) (upper (get_or t (b + k) 0))
 
-  -- behind none it is all of them
-  pub letters_start : same (spelling t a n) (spelling t b n) ≡ alike 0
-  letters_start = rw (add-zero a, add-zero b, sub-zero n)
+  from_on : (j n : ℕ) → same (spelling t (a + j) n) (spelling t (b + j) n) ≡ list_all alike (range_with_len j n)
+  unfolding same spelling
+  from_on j zero = refl
+  from_on j (suc n) =
+      let p : a + (j + 1) ≡ suc (a + j) = omega arith in
+      let q : b + (j + 1) ≡ suc (b + j) = omega arith in
+      both (alike j) (rw (p, q) at (from_on (j + 1) n))
+    where
+      both : (d : Bool) {p q : Bool} → p ≡ q → pick d (λ _. p) (λ _. false) ≡ (d && q)
+      both true e = e
+      both false e = refl
 
-  module _ (k : ℕ) where
-    module _ (h : k < n) where
-      -- one letter of each is looked at
-      step : alike k ≡ pick (eqb (upper (get_or t (a + k) 0)) (upper (get_or t (b + k) 0))) (λ _. alike (k + 1)) (λ _. false)
-      unfolding same spelling
-      step =
-          let e : n - k ≡ suc (n - (k + 1)) = omega arith in
-          let p : a + (k + 1) ≡ suc (a + k) = omega arith in
-          let q : b + (k + 1) ≡ suc (b + k) = omega arith in
-          rw (e, p, q)
-
-      -- where the next letters are alike, the rest decides
-      pub letter_on : upper (get_or t (a + k) 0) ≡ upper (get_or t (b + k) 0) → alike k ≡ alike (k + 1)
-      letter_on e = step ∙ rw (eq-eqb _ _ e)
-
-      -- where they are not, nor are the spellings
-      pub letter_off : (upper (get_or t (a + k) 0) ≡ upper (get_or t (b + k) 0) → ⊥) → alike k ≡ false
-      letter_off e = step ∙ rw (ne_eqb _ _ e)
-
-    -- behind the last letter nothing differs
-    pub letters_end : n ≤ k → alike k ≡ true
-    unfolding same spelling
-    letters_end h = let e : n - k ≡ 0 = omega arith in rw e
+  pub each_alike : (n : ℕ) → same (spelling t a n) (spelling t b n) ≡ list_all alike (range_with_len 0 n)
+  each_alike n = rw (add-zero a, add-zero b) at (from_on 0 n)

@@ -1,4 +1,3 @@
 pub mod Capitals
 pub mod Letters
 pub mod Rows
-pub mod Stores

@@ -1,6 +1,7 @@
 -- The declared names in lent numbers: a row of three numbers for each, from the first number on: its type, its place in the text, its length.
 use Rattle.std.specs.Prelude.{List, [], ◌∷◌, ℕ, zero, suc, ◌+◌, ◌*◌, eqb, pos, get_or}
 use Rattle.std.proofs.Math.Option.{Option, none, some}
+use Rattle.std.specs.Prelude as Std
 use Rattle.rules.specs.Base.{pick}
 use Rattle.rules.specs.Numbers.{Ty, bool, dint}
 use Rattle.rules.specs.Kinds.{BOOL}
@@ -25,7 +26,7 @@ unfoldable pub rows_from : List ℕ → List ℕ → ℕ → ℕ → List Var
 rows_from text m i zero = []
 rows_from text m i (suc n) = row_at text m i ∷ rows_from text m (suc i) n
 
--- the slot that was found, or n
-unfoldable pub slot_or : ℕ → Option Slot → ℕ
-slot_or n none = n
-slot_or n (some s) = s.slot
+-- the slot that was found, as the code says it
+abbrev pub slot_of : Option Slot → Std.Option ℕ
+slot_of none = Std.None
+slot_of (some s) = Std.Some s.slot

@@ -1,2 +1,1 @@
--- The laws that belong to no one function.
-pub mod Complement
+pub mod Methods

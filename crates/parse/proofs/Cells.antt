@@ -9,9 +9,8 @@ use lib.Seq.{sets, get_or-drop, drop-drop}
 use Rattle.rules.specs.Tokens.{Token, plain}
 use Rattle.rules.specs.Syntax.{next, rest}
 use Rattle.rules.specs.Cells.{cells, token_cell, cell, datum}
-use Rattle.parse.specs.Steps.{token_at}
+use Rattle.parse.specs.Steps.{token_at, At}
 use Rattle.parse.specs.Reading.{Ahead}
-use Rattle.parse.specs.declared.steps.Step.TheVariants.{Ok}
 
 -- what is stored behind some stores is stored with them
 pub sets_append : (l : List ℕ) (i : ℕ) (xs ys : List ℕ) → sets (sets l i xs) (i + length xs) ys ≡ sets l i (xs ++ ys)
@@ -36,7 +35,7 @@ first [] = (refl, refl, refl)
 first (t ∷ us) = (refl, refl, refl)
 
 pub ahead_next : (n : ℕ) (m : List ℕ) (j a : ℕ) (us : List Token) → Ahead n m j us
-    → token_at n m (Ok j a) ≡ record { kind = (next us).kind; place = (next us).place; datum = datum (next us) }
+    → token_at m (At n j a) ≡ record { kind = (next us).kind; place = (next us).place; datum = datum (next us) }
 unfolding token_at
 ahead_next n m j a us h =
     let f = first us in

@@ -14,10 +14,8 @@ use Rattle.rules.specs.Syntax as S
 use Rattle.rules.specs.Syntax.{Exp, Read, got, bad, Reader, on_read, ◌>>=◌, ◌>>◌, give, when, unexpected, nested, name_of, operators, operator_of, leaf, parens, operand, prefixed, signed_operand, expr, more}
 use Rattle.rules.specs.Walk.{first}
 use Rattle.rules.specs.Cells.{WHOLE, cell, exp_cells, whole_cells}
-use Rattle.parse.specs.Steps.{token_at, extended, written}
+use Rattle.parse.specs.Steps.{token_at, extended, written, Writes, Step}
 use Rattle.parse.specs.Reading.{Done, read, refusal, Did, reads, stays}
-use Rattle.parse.specs.declared.steps.Step.{Step}
-use Rattle.parse.specs.declared.steps.Token as Code
 use Rattle.parse.proofs.Cells.{sets_append, ahead_next}
 
 -- an expression that starts at p, or a refusal
@@ -88,9 +86,8 @@ expr-starts zero n m us = refused
 expr-starts (suc f) n m us = chained f n m (signed-starts (operand n (expr f (suc n) 1)) us (operand-starts n (expr f (suc n) 1) us))
 
 -- an expression with its first byte behind it, where what the reader reads starts at the next token
-module _ {n : ℕ} {m m₁ mₑ : List ℕ} {r : Step} (token : Code.Token) where
-  close : {s₁ : Step} {o : Read Exp} (a p : ℕ) → token.place ≡ p → Starts p o → Done exp_cells n m m₁ a s₁ o
-      → (r ≡ extended s₁) × (mₑ ≡ written m₁ s₁ (cell WHOLE token.place 0)) → Done whole_cells n m mₑ a r o
+module _ {m m₁ mₑ : List ℕ} {r : Step} (place : ℕ) where
+  close : {n : ℕ} {s₁ : Step} {o : Read Exp} (a p : ℕ) → place ≡ p → Starts p o → Done exp_cells n m m₁ a s₁ o → Writes (cell WHOLE place 0) m₁ mₑ s₁ r → Done whole_cells n m mₑ a r o
   unfolding extended written whole_cells cell
   close a p q refused refusal w = rw w.0 refusal
   close a p q (there f) (read {a = b} e us g x l) w =
@@ -98,9 +95,9 @@ module _ {n : ℕ} {m m₁ mₑ : List ℕ} {r : Step} (token : Code.Token) wher
       (read {a = b + 3} e us g (w.1 ∙ rw (q, f, x, l) (sets_append m a (exp_cells e) (cell WHOLE p 0)))
       (rw (length-append (exp_cells e) (cell WHOLE (first e) 0)) (omega arith)))
 
-  pub closed : {s s₁ : Step} {R : Reader Exp} → token ≡ token_at n m s → ((us : List Token) → Starts (S.next us).place (R us)) → Did exp_cells n m m₁ s s₁ R
-      → (r ≡ extended s₁) × (mₑ ≡ written m₁ s₁ (cell WHOLE token.place 0)) → Did whole_cells n m mₑ s r R
+  pub closed : {s s₁ : Step} {R : Reader Exp} → place ≡ (token_at m s).place → ((us : List Token) → Starts (S.next us).place (R us)) → Did exp_cells m m₁ s s₁ R
+      → Writes (cell WHOLE place 0) m₁ mₑ s₁ r → Did whole_cells m mₑ s r R
   unfolding extended
   closed met h stays w = rw w.0 stays
-  closed {R} met h (reads {j} {a} d) w =
-      reads {a = a} {r = r} {reader = R} (λ us g. close a (S.next us).place (ap (λ t. t.place) (met ∙ ahead_next n m j a us g)) (h us) (d us g) w)
+  closed {R} met h (reads {n} {j} {a} d) w =
+      reads {a = a} {r = r} {reader = R} (λ us g. close a (S.next us).place (met ∙ ap (λ t. t.place) (ahead_next n m j a us g)) (h us) (d us g) w)

@@ -3,7 +3,7 @@ use mathlib.Core.Path.{◌≡◌, refl, sym, ◌∙◌}
 use mathlib.Core.Bool.{Bool, true, false}
 use mathlib.Core.List.{List, [], ◌∷◌}
 use mathlib.Core.Option.{none}
-use Prim.Native.Nat.{ℕ, zero, suc, ◌*◌, ◌-◌, ◌≤◌, ◌<◌}
+use Prim.Native.Nat.{ℕ, zero, suc, ◌*◌, ◌≤◌, ◌<◌}
 use native.Mathlib.Omega.{arith}
 use lib.Dec.{eqb}
 use borrow.Author.Tests.{eq-eqb, ne_eqb}
@@ -13,11 +13,10 @@ use Rattle.rules.specs.Tokens.{Token}
 use Rattle.rules.specs.Syntax as S
 use Rattle.rules.specs.Syntax.{Label, label, con_bool, Read, got, bad, Reader, on_read, ◌>>=◌, ◌>>◌, give, when, one_label, labels}
 use Rattle.rules.specs.Cells.{cell, label_cells, labels_cells}
-use Rattle.parse.specs.Steps.{next_of, free_of, kind_at, skipped, extended, written}
+use Rattle.parse.specs.Steps.{count_of, left_of, free_of, kind_at, Skips, Writes, Step, Bad}
 use Rattle.parse.specs.Reading.{Did, DidWith}
-use Rattle.parse.specs.declared.steps.Step.{Step}
 use Rattle.parse.proofs.Follow.{begin, named, knows, skips_on, bind, writes, gives}
-use Rattle.parse.proofs.Loops.{joins, Loops, loops_start, loops_step}
+use Rattle.parse.proofs.Loops.{joins, Loops, loops_start, loops-refused, loops_step}
 use Rattle.parse.proofs.NextKind.{kind_left}
 
 -- what is read behind a label
@@ -59,40 +58,44 @@ ended f us K e = rw (ne_eqb _ _ e)
 any : Label
 any = label (con_bool 0 true) none
 
-module _ (n : ℕ) (m₁ : List ℕ) (s₁ : Step) where
+module _ (m₁ : List ℕ) (s₁ : Step) where
   -- from the step s₁ behind a label the loop has come to s
   abbrev pub Comes : List ℕ → Step → Type 0
-  Comes m s = Loops labels_cells behind_label 1 0 n m₁ s₁ m s
+  Comes m s = Loops labels_cells behind_label 1 0 m₁ s₁ m s
 
   -- where it begins
   pub starts : Comes m₁ s₁
-  starts = loops_start labels_cells behind_label 1 0 n m₁ s₁
+  starts = loops_start labels_cells behind_label 1 0 m₁ s₁
 
-  module _ (behind : 3 * n ≤ free_of s₁) where
+  module _ (behind : 3 * count_of s₁ ≤ free_of s₁) where
     -- past a comma and a label
-    pub turns : {m m' : List ℕ} {s s₂ s' : Step} → Comes m s → 3 * n ≤ free_of s → kind_at n m s ≡ COMMA → s₂ ≡ skipped n s → Did label_cells n m m' s₂ s' one_label
-        → n - next_of n s' < n - next_of n s → Comes m' s'
+    pub turns : {m m₂ m' : List ℕ} {s s₂ s' : Step} → Comes m s → 3 * count_of s ≤ free_of s → kind_at m s ≡ COMMA → Skips m m₂ s s₂ → Did label_cells m₂ m' s₂ s' one_label
+        → left_of s' < left_of s → Comes m' s'
     unfolding labels_cells comma_label
     turns {m} {s} old b k q d less =
-        loops_step labels_cells behind_label 1 0 n m₁ s₁ behind any label_cells (λ g. comma_label) (λ e x. e ∷ x) (λ e x. refl) old
-        (λ g us z. again g us (kind_left n m s us z ∙ k))
-        (λ g h. begin (skips_on b (bind b any (rw q at d) (λ a. gives a refl))))
+        loops_step labels_cells behind_label 1 0 m₁ s₁ behind any label_cells (λ g. comma_label) (λ e x. e ∷ x) (λ e x. refl) old
+        (λ g us z. again g us (kind_left m s us z ∙ k))
+        (λ g h. begin (skips_on b q (bind b any d (λ a. gives a refl))))
         (omega arith)
 
+    -- a label that is refused
+    pub breaks : {m : List ℕ} {x p : ℕ} → Comes m (Bad x p) → (g : ℕ) → left_of s₁ ≤ g → Did labels_cells m₁ m s₁ (Bad x p) (behind_label g)
+    breaks all g h = loops-refused labels_cells behind_label 1 0 m₁ s₁ all g (omega arith)
+
     -- where no comma is next, the cell that closes labels ends it
-    pub ends : {m mₑ : List ℕ} {s r : Step} → Comes m s → (kind_at n m s ≡ COMMA → ⊥) → (r ≡ extended s) × (mₑ ≡ written m s (cell COLON 0 0))
-        → (g : ℕ) → n - next_of n s₁ ≤ g → Did labels_cells n m₁ mₑ s₁ r (behind_label g)
+    pub ends : {m mₑ : List ℕ} {s r : Step} → Comes m s → (kind_at m s ≡ COMMA → ⊥) → Writes (cell COLON 0 0) m mₑ s r
+        → (g : ℕ) → left_of s₁ ≤ g → Did labels_cells m₁ mₑ s₁ r (behind_label g)
     unfolding labels_cells
     ends {m} {mₑ} {s} {r} all k w g h =
         begin
         (all mₑ r g (omega arith) (λ v wrap q f b.
-        knows behind (λ us z. ended f us _ (λ e. k (sym (kind_left n m s us z) ∙ e)))
+        knows behind (λ us z. ended f us _ (λ e. k (sym (kind_left m s us z) ∙ e)))
         (writes behind _ _ _ w
         (gives (wrap []) (q [])))))
 
 -- a label, and then the loop
-pub labels-read : {n : ℕ} {m m₁ mₑ : List ℕ} {s s₁ r : Step} → 3 * n ≤ free_of s → next_of n s ≤ next_of n s₁ → Did label_cells n m m₁ s s₁ one_label
-    → ((g : ℕ) → n - next_of n s₁ ≤ g → Did labels_cells n m₁ mₑ s₁ r (behind_label g)) → DidWith 1 1 labels_cells n m mₑ s r labels
+pub labels-read : {m m₁ mₑ : List ℕ} {s s₁ r : Step} → 3 * count_of s ≤ free_of s → left_of s₁ ≤ left_of s → Did label_cells m m₁ s s₁ one_label
+    → ((g : ℕ) → left_of s₁ ≤ g → Did labels_cells m₁ mₑ s₁ r (behind_label g)) → DidWith 1 1 labels_cells m mₑ s r labels
 unfolding labels_cells
 labels-read behind on d k zero h = absurd (omega arith)
 labels-read behind on d k (suc g) h =

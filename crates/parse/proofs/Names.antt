@@ -10,9 +10,8 @@ use Rattle.rules.specs.Kinds.{NAME}
 use Rattle.rules.specs.Tokens.{Token}
 use Rattle.rules.specs.Syntax.{Name, Reader, on_read, ◌>>=◌, ◌>>◌, give, next, take, name_of, take_name}
 use Rattle.rules.specs.Cells.{datum}
-use Rattle.parse.specs.Steps.{token_at}
+use Rattle.parse.specs.Steps.{token_at, Step}
 use Rattle.parse.specs.Reading.{Did, nothing}
-use Rattle.parse.specs.declared.steps.Step.{Step}
 use Rattle.parse.proofs.Follow.{Ends, named, thens, looks}
 use Rattle.parse.proofs.Loops.{joins}
 
@@ -40,8 +39,8 @@ name-taken us = go (eqb (next us).kind NAME) refl
 
 module _ {n : ℕ} {m₀ : List ℕ} {at₀ : ℕ} {B : Type 0} {encode : B → List ℕ} {mₑ : List ℕ} {r : Step} (behind : 3 * n ≤ at₀) where
   -- a name is taken, whose numbers are the next token's
-  pub takes-name : {K : Name → Reader B} {v m : List ℕ} {s s₁ : Step} → Did nothing n m m s s₁ (take NAME)
-      → ((x : Name) → x.place ≡ (token_at n m s).place → length x.letters ≡ (token_at n m s).datum → Ends n m₀ at₀ encode mₑ r v m s₁ (K x))
+  pub takes-name : {K : Name → Reader B} {v m m₁ : List ℕ} {s s₁ : Step} → Did nothing m m₁ s s₁ (take NAME)
+      → ((x : Name) → x.place ≡ (token_at m s).place → length x.letters ≡ (token_at m s).datum → Ends n m₀ at₀ encode mₑ r v m₁ s₁ (K x))
       → Ends n m₀ at₀ encode mₑ r v m s (◌>>=◌ take_name K)
   unfolding ◌>>=◌ ◌>>◌ on_read give name_for
   takes-name {K} {s} d k =
@@ -50,7 +49,7 @@ module _ {n : ℕ} {m₀ : List ℕ} {at₀ : ℕ} {B : Type 0} {encode : B → 
       thens behind d (k (name_for t) (sym (ap (λ c. c.place) z)) (name-datum t ∙ sym (ap (λ c. c.datum) z)))))
 
   -- a name is taken and not used
-  pub passes-name : {K : Reader B} {v m : List ℕ} {s s₁ : Step} → Did nothing n m m s s₁ (take NAME)
-      → Ends n m₀ at₀ encode mₑ r v m s₁ K → Ends n m₀ at₀ encode mₑ r v m s (◌>>◌ take_name K)
+  pub passes-name : {K : Reader B} {v m m₁ : List ℕ} {s s₁ : Step} → Did nothing m m₁ s s₁ (take NAME)
+      → Ends n m₀ at₀ encode mₑ r v m₁ s₁ K → Ends n m₀ at₀ encode mₑ r v m s (◌>>◌ take_name K)
   unfolding take_name ◌>>=◌ ◌>>◌ give on_read
   passes-name d k = named (λ us. joins (take NAME us) _ _) (thens behind d k)

@@ -10,10 +10,9 @@ use Rattle.rules.specs.Tokens.{Token}
 use Rattle.rules.specs.Syntax as S
 use Rattle.rules.specs.Syntax.{Con, con_bool, label, on_read, ◌>>=◌, ◌>>◌, give, when, constant, maybe, one_label}
 use Rattle.rules.specs.Cells.{cell, con_cells, label_cells}
-use Rattle.parse.specs.Steps.{free_of, kind_at, skipped, extended, written}
+use Rattle.parse.specs.Steps.{count_of, free_of, kind_at, Skips, Writes, Step, Bad}
 use Rattle.parse.specs.Reading.{Did}
-use Rattle.parse.specs.declared.steps.Step.{Step}
-use Rattle.parse.proofs.Follow.{begin, knows, skips_on, bind, writes, gives}
+use Rattle.parse.proofs.Follow.{begin, off, knows, skips_on, bind, writes, gives}
 use Rattle.parse.proofs.Loops.{joins}
 use Rattle.parse.proofs.NextKind.{kind_left}
 
@@ -27,25 +26,30 @@ ranged : (c : Con) (us : List Token) → (S.next us).kind ≡ DOTS
 unfolding ◌>>=◌ ◌>>◌ on_read give maybe when S.skip
 ranged c us h = rw (eq-eqb _ _ h) (joins (constant (S.rest us)) _ _)
 
-module _ {n : ℕ} {m m₁ : List ℕ} {s s₁ : Step} (behind : 3 * n ≤ free_of s) (low : Did con_cells n m m₁ s s₁ constant) where
+module _ {m m₁ : List ℕ} {s s₁ : Step} (behind : 3 * count_of s ≤ free_of s) (low : Did con_cells m m₁ s s₁ constant) where
   -- some constant
   any : Con
   any = con_bool 0 true
 
+  -- low is refused
+  pub low-refused : {x p : ℕ} → s₁ ≡ Bad x p → Did label_cells m m₁ s s₁ one_label
+  unfolding one_label
+  low-refused e = begin (bind behind any low (λ c. rw e (off refl)))
+
   -- low alone
-  pub lone-read : (kind_at n m₁ s₁ ≡ DOTS → ⊥) → Did label_cells n m m₁ s s₁ one_label
+  pub lone-read : (kind_at m₁ s₁ ≡ DOTS → ⊥) → Did label_cells m m₁ s s₁ one_label
   unfolding one_label label_cells
-  lone-read h = begin (bind behind any low (λ c. knows behind (λ us z. lone c us (λ e. h (sym (kind_left n m₁ s₁ us z) ∙ e))) (gives (label c none) refl)))
+  lone-read h = begin (bind behind any low (λ c. knows behind (λ us z. lone c us (λ e. h (sym (kind_left m₁ s₁ us z) ∙ e))) (gives (label c none) refl)))
 
   -- low, `..`, high
-  pub ranged-read : {m₂ m₃ : List ℕ} {s₂ s₃ r : Step} → kind_at n m₁ s₁ ≡ DOTS → s₂ ≡ skipped n s₁
-      → (s₃ ≡ extended s₂) × (m₂ ≡ written m₁ s₂ (cell DOTS 0 0)) → Did con_cells n m₂ m₃ s₃ r constant → Did label_cells n m m₃ s r one_label
+  pub ranged-read : {m₂ m₃ m₄ : List ℕ} {s₂ s₃ r : Step} → kind_at m₁ s₁ ≡ DOTS → Skips m₁ m₂ s₁ s₂
+      → Writes (cell DOTS 0 0) m₂ m₃ s₂ s₃ → Did con_cells m₃ m₄ s₃ r constant → Did label_cells m m₄ s r one_label
   unfolding one_label label_cells
   ranged-read h q w high =
       begin
       (bind behind any low (λ c.
-      knows behind (λ us z. ranged c us (kind_left n m₁ s₁ us z ∙ h))
-      (skips_on behind
-      (writes behind _ _ _ (rw q at w)
+      knows behind (λ us z. ranged c us (kind_left m₁ s₁ us z ∙ h))
+      (skips_on behind q
+      (writes behind _ _ _ w
       (bind behind any high (λ d.
       gives (label c (some d)) refl))))))

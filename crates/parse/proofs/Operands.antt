@@ -3,7 +3,7 @@ use mathlib.Core.Path.{◌≡◌, refl, sym, ap, ◌∙◌}
 use mathlib.Core.Bool.{Bool, true, false}
 use mathlib.Core.List.{List}
 use mathlib.Core.Logic.{◌⊎◌, inl, inr}
-use Prim.Native.Nat.{ℕ, zero, suc, ◌+◌, ◌*◌, ◌≤◌, ◌<◌}
+use Prim.Native.Nat.{ℕ, ◌+◌, ◌*◌, ◌≤◌, ◌<◌}
 use native.Mathlib.Numerals.{add-one}
 use native.Mathlib.Omega.{arith}
 use lib.Dec.{eqb}
@@ -15,20 +15,24 @@ use Rattle.rules.specs.Tokens.{Token}
 use Rattle.rules.specs.Syntax as S
 use Rattle.rules.specs.Syntax.{Exp, named, whole, truth, paren, unary, Sign, minus, plus, inverse, Reader, ◌>>=◌, ◌>>◌, give, when, name_of, operators, operator_of, unexpected, leaf, parens, operand, prefixed, signed_operand, expr}
 use Rattle.rules.specs.Codes.{bin_code}
-use Rattle.rules.specs.Cells.{UNARY, BINARY, cell, datum, name_cell, truth_kind, sign_code, exp_cells}
-use Rattle.parse.specs.Steps.{free_of, token_at, skipped, extended, written, refused_at}
+use Rattle.rules.specs.KindNumbers.{kind_number}
+use Rattle.rules.proofs.KindLaws.{one_kind}
+use Rattle.rules.specs.declared.kinds.Kind.{Kind}
+use Rattle.rules.specs.declared.kinds.Kind.TheVariants.{Name, Int, True, False, Open}
+use Rattle.rules.specs.Cells.{WHOLE, UNARY, BINARY, cell, datum, name_cell, truth_kind, sign_code, exp_cells}
+use Rattle.parse.specs.Steps.{count_of, free_of, token_at, kind_at, Skips, Writes, Step, At, Bad}
 use Rattle.parse.specs.Reading.{Did, reads, stays, nothing}
 use Rattle.parse.specs.Parts.{prefix_code, in_parens, right, right_cells}
-use Rattle.parse.specs.declared.steps.Step.{Step}
-use Rattle.parse.specs.declared.steps.Token as Code
+use Rattle.parse.specs.declared.parser.Token as Code
 use Rattle.parse.proofs.Cells.{ahead_next}
+use Rattle.parse.proofs.NextKind.{kind_left, kind-of, place_of}
 use Rattle.parse.proofs.Follow.{seen, begin, bind, thens, looks, knows, skips, skips_on, writes, under, over, unexpects, gives}
 
 -- what is done by one reader is done by another that is the same where the next token is known
-same : {n : ℕ} {m mₑ : List ℕ} {s r : Step} {R Q : Reader Exp} → ((us : List Token) → token_at n m s ≡ seen (S.next us) → R us ≡ Q us)
-    → Did exp_cells n m mₑ s r Q → Did exp_cells n m mₑ s r R
+same : {m mₑ : List ℕ} {s r : Step} {R Q : Reader Exp} → ((us : List Token) → token_at m s ≡ seen (S.next us) → R us ≡ Q us)
+    → Did exp_cells m mₑ s r Q → Did exp_cells m mₑ s r R
 same q stays = stays
-same {n} {m} {r} {R} q (reads {j} {a} d) = reads {a = a} {r = r} {reader = R} (λ us h. rw (q us (ahead_next n m j a us h)) (d us h))
+same {m} {r} {R} q (reads {n} {j} {a} d) = reads {a = a} {r = r} {reader = R} (λ us h. rw (q us (ahead_next n m j a us h)) (d us h))
 
 -- an operand by the kind of the next token
 module _ (nesting : ℕ) (exp : Reader Exp) (us : List Token) where
@@ -112,114 +116,120 @@ signed-code k h = go (eqb k MINUS) (eqb k PLUS) (eqb k NOT) h
     go false false true h = refl
     go false false false h = absurd (h refl)
 
--- the end of the tokens is no sign
-pub sign-ahead : (k : ℕ) → (prefix_code k ≡ 1 → ⊥) → 1 ≤ k
-unfolding prefix_code
-sign-ahead zero h = absurd (h refl)
-sign-ahead (suc k) h = omega arith
-
 -- an operator and its right operand by the operator's level
 of_level : (f n level : ℕ) (us : List Token) → level ≡ (operator_of (S.next us).kind operators).level
     → right f n us ≡ (do t ← S.skip; b ← expr f n (level + 1); give (record { operator = t; operand = b })) us
 unfolding right
 of_level f n level us e = rw (e, add-one)
 
--- a cell is written last
-abbrev Last : List ℕ → List ℕ → Step → Step → List ℕ → Type 0
-Last m mₑ s r x = (r ≡ extended s) × (mₑ ≡ written m s x)
-
--- the next token is known, and the numbers of the tree lie behind the tokens
-module _ {n : ℕ} {m mₑ : List ℕ} {s r : Step} (behind : 3 * n ≤ free_of s) (token : Code.Token) (met : token ≡ token_at n m s) where
+module _ {m mₑ : List ℕ} {s r : Step} (behind : 3 * count_of s ≤ free_of s) where
   -- an operand with no sign before it
-  pub reads-unsigned : (arg : Reader Exp) → prefix_code token.kind ≡ 1 → Did exp_cells n m mₑ s r arg → Did exp_cells n m mₑ s r (signed_operand arg)
-  reads-unsigned arg k d = same (λ us z. unsigned arg us (ap (λ t. prefix_code t.kind) (sym (met ∙ z)) ∙ k)) d
+  pub reads-unsigned : (arg : Reader Exp) → prefix_code (kind_at m s) ≡ 1 → Did exp_cells m mₑ s r arg → Did exp_cells m mₑ s r (signed_operand arg)
+  reads-unsigned arg k d = same (λ us z. unsigned arg us (ap prefix_code (kind_left m s us z) ∙ k)) d
 
   -- a sign and its operand
-  pub reads-signed : {arg : Reader Exp} {m₁ : List ℕ} {s₁ s₂ : Step} → (prefix_code token.kind ≡ 1 → ⊥) → s₁ ≡ skipped n s → Did exp_cells n m m₁ s₁ s₂ arg
-      → Last m₁ mₑ s₂ r (cell UNARY token.place (prefix_code token.kind)) → Did exp_cells n m mₑ s r (signed_operand arg)
+  pub reads-signed : {arg : Reader Exp} {m₁ m₂ : List ℕ} {s₁ s₂ : Step} (place code : ℕ) → place ≡ (token_at m s).place → (prefix_code (kind_at m s) ≡ code) × (code ≡ 1 → ⊥)
+      → Skips m m₁ s s₁ → Did exp_cells m₁ m₂ s₁ s₂ arg → Writes (cell UNARY place code) m₂ mₑ s₂ r → Did exp_cells m mₑ s r (signed_operand arg)
   unfolding prefixed exp_cells
-  reads-signed {arg} k e d w =
+  reads-signed {arg} place code here sign q d w =
+      let k = kind_at m s in
+      let some : prefix_code k ≡ 1 → ⊥ = λ e. sign.1 (sym sign.0 ∙ e) in
       begin
-      (knows behind (λ us z. signed arg us token.kind (ap (λ t. t.kind) (sym (met ∙ z))) k)
-      (skips behind (λ t z.
-      bind behind (truth 0 true) (rw e at d) (λ x.
-      writes behind UNARY token.place (prefix_code token.kind) w
-      (gives (unary t.place (sign_of token.kind) x) (rw (signed-code token.kind k, ap (λ a. a.place) (met ∙ z))))))))
+      (knows behind (λ us z. signed arg us k (kind_left m s us z) some)
+      (skips behind q (λ t z.
+      bind behind (truth 0 true) d (λ x.
+      writes behind UNARY place code w
+      (gives (unary t.place (sign_of k) x) (rw (signed-code k some, sign.0, place_of m s here t z)))))))
 
   -- so many parentheses are around
   module _ (nesting : ℕ) where
     -- an operand of one token, which is skipped
-    leaf-read : (exp : Reader Exp) (make : Token → Exp) (d : ℕ) {s₁ : Step} → s₁ ≡ skipped n s → Last m mₑ s₁ r (cell token.kind token.place d)
-        → ((us : List Token) → (S.next us).kind ≡ token.kind → operand nesting exp us ≡ leaf make us)
-        → ((t : Token) → token ≡ seen t → exp_cells (make t) ≡ cell token.kind token.place d) → Did exp_cells n m mₑ s r (operand nesting exp)
+    leaf-read : (exp : Reader Exp) (make : Token → Exp) (place d : ℕ) {m₁ : List ℕ} {s₁ : Step} {k : ℕ} → kind_at m s ≡ k → Skips m m₁ s s₁ → Writes (cell k place d) m₁ mₑ s₁ r
+        → ((us : List Token) → (S.next us).kind ≡ k → operand nesting exp us ≡ leaf make us)
+        → ((t : Token) → token_at m s ≡ seen t → exp_cells (make t) ≡ cell k place d) → Did exp_cells m mₑ s r (operand nesting exp)
     unfolding leaf
-    leaf-read exp make d e w which same =
+    leaf-read exp make place d {k} is q w which same =
         begin
-        (knows behind (λ us z. which us (ap (λ t. t.kind) (sym (met ∙ z))))
-        (skips behind (λ t z. writes behind token.kind token.place d (rw e at w) (gives (make t) (same t (met ∙ z))))))
+        (knows behind (λ us z. which us (kind-of m s is us z))
+        (skips behind q (λ t z. writes behind k place d w (gives (make t) (same t z)))))
 
     -- a name or an integer
-    pub reads_word : (exp : Reader Exp) {s₁ : Step} → s₁ ≡ skipped n s → Last m mₑ s₁ r (cell token.kind token.place token.datum)
-        → (token.kind ≡ NAME) ⊎ (token.kind ≡ INT) → Did exp_cells n m mₑ s r (operand nesting exp)
-    reads_word exp e w (inl k) = leaf-read exp _ token.datum e w (λ us q. of_name nesting exp us (q ∙ k)) (λ t z. rw z (name-cell t (rw z at k)))
-    reads_word exp e w (inr k) = leaf-read exp _ token.datum e w (λ us q. of_integer nesting exp us (q ∙ k)) (λ t z. rw z (integer-cell t (rw z at k)))
+    pub reads_word : (exp : Reader Exp) (t : Code.Token) (kind : Kind) {m₁ : List ℕ} {s₁ : Step} → t ≡ token_at m s → kind_at m s ≡ kind_number kind → (kind ≡ Name) ⊎ (kind ≡ Int)
+        → Skips m m₁ s s₁ → Writes (cell (kind_number kind) t.place t.datum) m₁ mₑ s₁ r → Did exp_cells m mₑ s r (operand nesting exp)
+    unfolding kind_at
+    reads_word exp t kind met is (inl e) q w =
+        let k = ap kind_number e in
+        leaf-read exp _ t.place t.datum is q w (λ us z. of_name nesting exp us (z ∙ k))
+        (λ u z. rw (met ∙ z, ← (sym (ap (λ x. x.kind) z) ∙ is)) (name-cell u (sym (ap (λ x. x.kind) z) ∙ is ∙ k)))
+    reads_word exp t kind met is (inr e) q w =
+        let k = ap kind_number e in
+        leaf-read exp _ t.place t.datum is q w (λ us z. of_integer nesting exp us (z ∙ k))
+        (λ u z. rw (met ∙ z, ← (sym (ap (λ x. x.kind) z) ∙ is)) (integer-cell u (sym (ap (λ x. x.kind) z) ∙ is ∙ k)))
+
+    truly : (exp : Reader Exp) (t : Code.Token) {k : ℕ} {m₁ : List ℕ} {s₁ : Step} (b : Bool) → t ≡ token_at m s → kind_at m s ≡ k → k ≡ truth_kind b
+        → Skips m m₁ s s₁ → Writes (cell k t.place 0) m₁ mₑ s₁ r → Did exp_cells m mₑ s r (operand nesting exp)
+    unfolding kind_at
+    truly exp t b met is k q w =
+        leaf-read exp _ t.place 0 is q w (λ us z. of_truth nesting exp us b (z ∙ k))
+        (λ u z. rw (met ∙ z, ← (sym (ap (λ x. x.kind) z) ∙ is)) (truth-cell u b (sym (ap (λ x. x.kind) z) ∙ is ∙ k)))
 
     -- TRUE or FALSE
-    pub reads-truth : (exp : Reader Exp) {s₁ : Step} → s₁ ≡ skipped n s → Last m mₑ s₁ r (cell token.kind token.place 0)
-        → (token.kind ≡ FALSE) ⊎ (token.kind ≡ TRUE) → Did exp_cells n m mₑ s r (operand nesting exp)
+    pub reads-truth : (exp : Reader Exp) (t : Code.Token) (kind : Kind) {m₁ : List ℕ} {s₁ : Step} → t ≡ token_at m s → kind_at m s ≡ kind_number kind → (kind ≡ True) ⊎ (kind ≡ False)
+        → Skips m m₁ s s₁ → Writes (cell (kind_number kind) t.place 0) m₁ mₑ s₁ r → Did exp_cells m mₑ s r (operand nesting exp)
     unfolding truth_kind
-    reads-truth exp e w h = go h
-      where
-        truly : (b : Bool) → token.kind ≡ truth_kind b → Did exp_cells n m mₑ s r (operand nesting exp)
-        truly b k = leaf-read exp _ 0 e w (λ us q. of_truth nesting exp us b (q ∙ k)) (λ t z. rw z (truth-cell t b (rw z at k)))
-
-        go : (token.kind ≡ FALSE) ⊎ (token.kind ≡ TRUE) → Did exp_cells n m mₑ s r (operand nesting exp)
-        go (inl k) = truly false k
-        go (inr k) = truly true k
+    reads-truth exp t kind met is (inl e) q w = truly exp t true met is (ap kind_number e) q w
+    reads-truth exp t kind met is (inr e) q w = truly exp t false met is (ap kind_number e) q w
 
     -- an expression in parentheses
-    pub reads_open : (exp : Reader Exp) → token.kind ≡ OPEN → Did exp_cells n m mₑ s r (in_parens nesting exp) → Did exp_cells n m mₑ s r (operand nesting exp)
-    reads_open exp k d = same (λ us z. of_open nesting exp us (ap (λ t. t.kind) (sym (met ∙ z)) ∙ k)) d
-
-    -- no operand
-    pub reads_none : (exp : Reader Exp) → (token.kind ≡ NAME → ⊥) → (token.kind ≡ INT → ⊥) → (token.kind ≡ TRUE → ⊥) → (token.kind ≡ FALSE → ⊥)
-        → (token.kind ≡ OPEN → ⊥) → r ≡ refused_at 5 token.place s → Did exp_cells n m mₑ s r (operand nesting exp)
-    reads_none exp a b d f o e =
-        begin
-        (knows behind (λ us z. of_other nesting exp us token.kind (ap (λ t. t.kind) (sym (met ∙ z))) a b d f o)
-        (unexpects behind (rw met at e)))
-
-    -- parentheses that are nested too deep
-    pub reads-deep : (exp : Reader Exp) → nesting_limit ≤ nesting → r ≡ refused_at 10 token.place s → Did exp_cells n m mₑ s r (in_parens nesting exp)
-    unfolding in_parens parens
-    reads-deep exp h e =
-        begin
-        (looks behind {K = λ t. parens nesting t.place exp} s (λ t z.
-        over behind (do S.skip; x ← exp; S.take CLOSE; give (paren t.place x)) nesting nesting_limit t.place h (rw (met ∙ z) at e)))
+    pub reads_open : (exp : Reader Exp) → kind_at m s ≡ OPEN → Did exp_cells m mₑ s r (in_parens nesting exp) → Did exp_cells m mₑ s r (operand nesting exp)
+    reads_open exp k d = same (λ us z. of_open nesting exp us (kind-of m s k us z)) d
 
     -- parentheses and what is in them
-    pub reads-inner : {exp : Reader Exp} {m₁ : List ℕ} {s₁ s₂ s₃ : Step} → nesting < nesting_limit → s₁ ≡ skipped n s → Did exp_cells n m m₁ s₁ s₂ exp
-        → Did nothing n m₁ m₁ s₂ s₃ (S.take CLOSE) → Last m₁ mₑ s₃ r (cell OPEN token.place 0) → Did exp_cells n m mₑ s r (in_parens nesting exp)
+    pub reads-inner : {exp : Reader Exp} {m₁ m₂ m₃ : List ℕ} {s₁ s₂ s₃ : Step} (place : ℕ) → place ≡ (token_at m s).place → nesting < nesting_limit → Skips m m₁ s s₁ → Did exp_cells m₁ m₂ s₁ s₂ exp
+        → Did nothing m₂ m₃ s₂ s₃ (S.take CLOSE) → Writes (cell OPEN place 0) m₃ mₑ s₃ r → Did exp_cells m mₑ s r (in_parens nesting exp)
     unfolding in_parens parens exp_cells
-    reads-inner h e d q w =
+    reads-inner place here h skip d q w =
         begin
         (looks behind s (λ t z.
         under behind nesting nesting_limit t.place h
-        (skips_on behind
-        (bind behind (truth 0 true) (rw e at d) (λ x.
+        (skips_on behind skip
+        (bind behind (truth 0 true) d (λ x.
         thens behind q
-        (writes behind OPEN token.place 0 w
-        (gives (paren t.place x) (rw (met ∙ z)))))))))
+        (writes behind OPEN place 0 w
+        (gives (paren t.place x) (rw (place_of m s here t z)))))))))
 
     -- an operator and its right operand
-    pub reads_right : (f : ℕ) {m₁ : List ℕ} {s₁ s₂ : Step} (level code : ℕ) → level ≡ (operator_of token.kind operators).level
-        → code ≡ bin_code (operator_of token.kind operators).op → s₁ ≡ skipped n s → Did exp_cells n m m₁ s₁ s₂ (expr f nesting (level + 1))
-        → Last m₁ mₑ s₂ r (cell BINARY token.place code) → Did right_cells n m mₑ s r (right f nesting)
-    unfolding right_cells
-    reads_right f level code l q e d w =
+    pub reads_right : (f : ℕ) {m₁ m₂ : List ℕ} {s₁ s₂ : Step} (place level code : ℕ) → place ≡ (token_at m s).place → level ≡ (operator_of (kind_at m s) operators).level
+        → code ≡ bin_code (operator_of (kind_at m s) operators).op → Skips m m₁ s s₁ → Did exp_cells m₁ m₂ s₁ s₂ (expr f nesting (level + 1))
+        → Writes (cell BINARY place code) m₂ mₑ s₂ r → Did right_cells m mₑ s r (right f nesting)
+    unfolding right_cells kind_at
+    reads_right f place level code here l q skip d w =
         begin
-        (knows behind (λ us z. of_level f nesting level us (l ∙ ap (λ t. (operator_of t.kind operators).level) (met ∙ z)))
-        (skips behind (λ t z.
-        bind behind (truth 0 true) (rw e at d) (λ x.
-        writes behind BINARY token.place code w
-        (gives (record { operator = t; operand = x }) (rw (q, met ∙ z)))))))
+        (knows behind (λ us z. of_level f nesting level us (l ∙ ap (λ t. (operator_of t.kind operators).level) z))
+        (skips behind skip (λ t z.
+        bind behind (truth 0 true) d (λ x.
+        writes behind BINARY place code w
+        (gives (record { operator = t; operand = x }) (rw (q, place_of m s here t z, ap (λ t. t.kind) z)))))))
+
+-- no operand: by another kind, or by a number that no kind has; parentheses that are nested too deep
+module _ {m : List ℕ} {n j a : ℕ} {r : Step} (behind : 3 * n ≤ a) (nesting : ℕ) (exp : Reader Exp) where
+  pub reads_none : (kind : Kind) → kind_at m (At n j a) ≡ kind_number kind → (kind ≡ Name → ⊥) → (kind ≡ Int → ⊥) → (kind ≡ True → ⊥) → (kind ≡ False → ⊥) → (kind ≡ Open → ⊥)
+      → r ≡ Bad 5 (token_at m (At n j a)).place → Did exp_cells m m (At n j a) r (operand nesting exp)
+  reads_none kind is a b d f o e =
+      let other : (x : Kind) → (kind ≡ x → ⊥) → kind_number kind ≡ kind_number x → ⊥ = λ x h q. h (one_kind kind x q) in
+      begin
+      (knows behind (λ us z. of_other nesting exp us _ (kind-of m _ is us z) (other Name a) (other Int b) (other True d) (other False f) (other Open o))
+      (unexpects behind e))
+
+  pub reads-unknown : WHOLE < kind_at m (At n j a) → r ≡ Bad 5 (token_at m (At n j a)).place → Did exp_cells m m (At n j a) r (operand nesting exp)
+  reads-unknown h e =
+      begin
+      (knows behind (λ us z. of_other nesting exp us _ (kind_left m _ us z) (λ q. omega arith) (λ q. omega arith) (λ q. omega arith) (λ q. omega arith) (λ q. omega arith))
+      (unexpects behind e))
+
+  pub reads-deep : nesting_limit ≤ nesting → r ≡ Bad 10 (token_at m (At n j a)).place → Did exp_cells m m (At n j a) r (in_parens nesting exp)
+  unfolding in_parens parens
+  reads-deep h e =
+      begin
+      (looks behind {K = λ t. parens nesting t.place exp} (At n j a) (λ t z.
+      over behind (do S.skip; x ← exp; S.take CLOSE; give (paren t.place x)) nesting nesting_limit t.place h (rw (ap (λ t. t.place) z) at e)))

@@ -3,22 +3,21 @@ use mathlib.Core.Path.{◌≡◌, refl, sym, ap, ◌∙◌}
 use mathlib.Core.Bool.{Bool, true, false}
 use mathlib.Core.List.{List, [], ◌++◌}
 use mathlib.Core.Option.{Option, none, some}
-use Prim.Native.Nat.{ℕ, zero, suc, ◌+◌, ◌*◌, ◌-◌, ◌≤◌, ◌<◌}
+use Prim.Native.Nat.{ℕ, zero, suc, ◌+◌, ◌*◌, ◌≤◌, ◌<◌}
 use native.Mathlib.Omega.{arith}
-use lib.Dec.{eqb, ltb}
-use borrow.Author.Tests.{eq-eqb, ne_eqb, ltb-true, ltb-false}
-use Rattle.rules.specs.Kinds.{FINISH, ELSE, ELSIF, END_CASE, END_IF, SEMI, COLON, THEN}
+use lib.Dec.{eqb}
+use borrow.Author.Tests.{eq-eqb, ne_eqb}
+use Rattle.rules.specs.Kinds.{FINISH, NAME, CASE, ELSE, ELSIF, END_CASE, END_IF, EXIT, FOR, IF, REPEAT, THEN, WHILE, COLON, SEMI}
 use Rattle.rules.specs.Tokens as T
 use Rattle.rules.specs.Syntax.{truth, Stm, Stms, empty, then, Branches, no_else, else_b, branch, Groups, no_other, else_g, group, Read, got, bad, Reader, on_read, ◌>>=◌, ◌>>◌, give, next, rest, skip, take, when, whether, expr, labels, starts_constant, starts_statement, one_branch, one_group, one_more, statement, list, branches, groups}
-use Rattle.rules.specs.Cells.{cell, end_cell, list_cells, branch_cells, group_cells}
-use Rattle.parse.specs.Steps.{next_of, free_of, token_at, kind_at, skipped, extended, written}
+use Rattle.rules.specs.Cells.{WHOLE, cell, end_cell, list_cells, branch_cells, group_cells}
+use Rattle.parse.specs.Steps.{count_of, left_of, free_of, token_at, kind_at, Skips, Writes, Step, Bad}
 use Rattle.parse.specs.Reading.{Did, DidWith}
 use Rattle.parse.specs.Parts.{element, element_cells, starts_element, Branch, one_condition, condition_cells, Group, one_labelled, labelled_cells, otherwise, otherwise_cells, conditions}
-use Rattle.parse.specs.declared.steps.Step.{Step}
-use Rattle.parse.proofs.Moves.{skipped_one, some-ahead}
+use Rattle.parse.proofs.NextKind.{kind_left}
 use Rattle.parse.proofs.Follow.{seen, Ends, begin, gives, named, bind, knows, skips_on, writes}
 use Rattle.parse.proofs.Productions.{ends}
-use Rattle.parse.proofs.Loops.{same, Loops, loops_start, loops_step, joins}
+use Rattle.parse.proofs.Loops.{same, Loops, loops_start, loops-refused, loops_step, joins}
 
 -- what follows may be named otherwise
 agree : {A B : Type 0} (o : Read A) {F G : A → Reader B} → ((a : A) (us : List T.Token) → F a us ≡ G a us) → on_read o F ≡ on_read o G
@@ -38,26 +37,32 @@ tripled : {A B C D E : Type 0} (R : Reader A) (S : Reader B) (L : Reader C) (h :
 unfolding on_read ◌>>=◌ ◌>>◌ give
 tripled R S L h K us = agree (R us) (λ a vs. agree (S vs) (λ b ws. sym (joins (L ws) _ K)) ∙ sym (joins (S vs) _ K)) ∙ sym (joins (R us) _ K)
 
--- the kind that the code sees is the next token's
-kind-of : (n : ℕ) (m : List ℕ) (s : Step) {k : ℕ} (us : List T.Token) → k ≡ kind_at n m s → token_at n m s ≡ seen (next us) → (next us).kind ≡ k
-unfolding kind_at
-kind-of n m s us sees z = ap (λ c. c.kind) (sym z) ∙ sym sees
-
 -- Lists
 
 -- the loop's invariant: from m₁ and s₁, where it begins, it has come to m and s
-abbrev pub ListLoop : ℕ → ℕ → ℕ → List ℕ → Step → List ℕ → Step → Type 0
-ListLoop d q n m₁ s₁ m s = Loops list_cells (λ f. list f d q) 3 3 n m₁ s₁ m s
+abbrev pub ListLoop : ℕ → ℕ → List ℕ → Step → List ℕ → Step → Type 0
+ListLoop d q m₁ s₁ m s = Loops list_cells (λ f. list f d q) 3 3 m₁ s₁ m s
 
 -- an element starts with a token that is not the end
-starts : (k : ℕ) → starts_element k ≡ true → 1 ≤ k
+pub element-starts : (k : ℕ) → starts_element k ≡ true → 1 ≤ k
 unfolding starts_element starts_statement
-starts zero e = let z : ◌≡◌ {A = ℕ} 0 1 = cc in absurd (omega arith)
-starts (suc k) e = omega arith
+element-starts zero e = let z : ◌≡◌ {A = ℕ} 0 1 = cc in absurd (omega arith)
+element-starts (suc k) e = omega arith
 
--- where the test says that an element starts, there is a token
-pub element-ahead : (n : ℕ) (m : List ℕ) (s : Step) {k : ℕ} {b : Bool} → k ≡ kind_at n m s → b ≡ starts_element k → b ≡ true → next_of n s < n
-element-ahead n m s sees tests holds = some-ahead n m s (rw sees at (starts _ (sym tests ∙ holds)))
+-- and with one whose number is a kind's
+pub no-element : (k : ℕ) → WHOLE < k → starts_element k ≡ false
+unfolding starts_element starts_statement
+no-element k h =
+    rw (
+      ne_eqb k SEMI (λ e. omega arith),
+      ne_eqb k NAME (λ e. omega arith),
+      ne_eqb k IF (λ e. omega arith),
+      ne_eqb k CASE (λ e. omega arith),
+      ne_eqb k FOR (λ e. omega arith),
+      ne_eqb k WHILE (λ e. omega arith),
+      ne_eqb k REPEAT (λ e. omega arith),
+      ne_eqb k EXIT (λ e. omega arith),
+    ) refl
 
 -- an element before a list: a lone `;` adds nothing
 unfoldable add : Option Stm → Stms → Stms
@@ -89,48 +94,52 @@ no_more d q g us e = go (eqb (next us).kind SEMI) refl
     go false t = rw (t, rw t at e)
 
 -- the loop begins
-pub list_start : (d q n : ℕ) (m₁ : List ℕ) (s₁ : Step) → ListLoop d q n m₁ s₁ m₁ s₁
-list_start d q n m₁ s₁ = loops_start list_cells (λ f. list f d q) 3 3 n m₁ s₁
+pub list_start : (d q : ℕ) (m₁ : List ℕ) (s₁ : Step) → ListLoop d q m₁ s₁ m₁ s₁
+list_start d q m₁ s₁ = loops_start list_cells (λ f. list f d q) 3 3 m₁ s₁
 
--- an element starts, and is read
-pub list-turn : (d q : ℕ) {n k : ℕ} {b : Bool} {m₁ m m' : List ℕ} {s₁ s s' : Step} → 3 * n ≤ free_of s₁ → ListLoop d q n m₁ s₁ m s → k ≡ kind_at n m s
-    → b ≡ starts_element k → b ≡ true → DidWith 3 2 element_cells n m m' s s' (λ f. element f d q) → next_of n s < next_of n s' → ListLoop d q n m₁ s₁ m' s'
-list-turn d q {n} {m₁} {m} {s₁} {s} behind old sees tests holds did more =
-    let ahead = element-ahead n m s sees tests holds in
-    loops_step list_cells (λ f. list f d q) 3 3 n m₁ s₁ behind none element_cells (λ f. element f d q) add added old
-    (λ g us z. one_more_lem d q g us (rw (kind-of n m s us sees z) (sym tests ∙ holds)))
-    (λ g h. did g (omega arith))
-    (omega arith)
+module _ (d q : ℕ) {m₁ : List ℕ} {s₁ : Step} (behind : 3 * count_of s₁ ≤ free_of s₁) where
+  -- an element starts, and is read
+  pub list-turn : {m m' : List ℕ} {s s' : Step} → ListLoop d q m₁ s₁ m s → starts_element (kind_at m s) ≡ true
+      → DidWith 3 2 element_cells m m' s s' (λ f. element f d q) → left_of s' < left_of s → ListLoop d q m₁ s₁ m' s'
+  list-turn {m} {s} old holds did more =
+      loops_step list_cells (λ f. list f d q) 3 3 m₁ s₁ behind none element_cells (λ f. element f d q) add added old
+      (λ g us z. one_more_lem d q g us (ap starts_element (kind_left m s us z) ∙ holds))
+      (λ g h. did g (omega arith))
+      (omega arith)
 
--- no element starts: the list is closed by a cell
-pub list_done : (d q : ℕ) {n k : ℕ} {b : Bool} {m₁ m mₑ : List ℕ} {s₁ s r : Step} → 3 * n ≤ free_of s₁ → ListLoop d q n m₁ s₁ m s → k ≡ kind_at n m s
-    → b ≡ starts_element k → b ≡ false → (r ≡ extended s) × (mₑ ≡ written m s (cell FINISH 0 0)) → DidWith 3 3 list_cells n m₁ mₑ s₁ r (λ f. list f d q)
-unfolding list_cells end_cell ◌>>=◌ on_read give
-list_done d q {n} {m₁} {m} {mₑ} {s₁} {s} {r} behind old sees tests fails w F h = begin (old mₑ r F h end)
-  where
-    end : (v : List ℕ) (wrap : Stms → Stms) → ((l : Stms) → list_cells (wrap l) ≡ v ++ list_cells l) → (f : ℕ) → 3 * (n - next_of n s) + 3 ≤ f
-        → Ends n m₁ (free_of s₁) list_cells mₑ r v m s (◌>>=◌ (list f d q) (λ l. give (wrap l)))
-    end v wrap q zero h = absurd (omega arith)
-    end v wrap e (suc g) h =
-        knows behind (λ us z. ap (λ o. on_read o (λ l. give (wrap l))) (no_more d q g us (rw (kind-of n m s us sees z) (sym tests ∙ fails))))
-        (writes behind FINISH 0 0 w (gives (wrap empty) (e empty)))
+  -- it is refused
+  pub list-refused : {m : List ℕ} {x p : ℕ} → ListLoop d q m₁ s₁ m (Bad x p) → DidWith 3 3 list_cells m₁ m s₁ (Bad x p) (λ f. list f d q)
+  list-refused old = loops-refused list_cells (λ f. list f d q) 3 3 m₁ s₁ old
+
+  -- no element starts: the list is closed by a cell
+  pub list_done : {m mₑ : List ℕ} {s r : Step} → ListLoop d q m₁ s₁ m s → starts_element (kind_at m s) ≡ false → Writes (cell FINISH 0 0) m mₑ s r
+      → DidWith 3 3 list_cells m₁ mₑ s₁ r (λ f. list f d q)
+  unfolding list_cells end_cell ◌>>=◌ on_read give
+  list_done {m} {mₑ} {s} {r} old fails w F h = begin (old mₑ r F h end)
+    where
+      end : (v : List ℕ) (wrap : Stms → Stms) → ((l : Stms) → list_cells (wrap l) ≡ v ++ list_cells l) → (f : ℕ) → 3 * left_of s + 3 ≤ f
+          → Ends (count_of s₁) m₁ (free_of s₁) list_cells mₑ r v m s (◌>>=◌ (list f d q) (λ l. give (wrap l)))
+      end v wrap q' zero h = absurd (omega arith)
+      end v wrap e (suc g) h =
+          knows behind (λ us z. ap (λ o. on_read o (λ l. give (wrap l))) (no_more d q g us (ap starts_element (kind_left m s us z) ∙ fails)))
+          (writes behind FINISH 0 0 w (gives (wrap empty) (e empty)))
 
 -- What stands behind the elements of IF and CASE: ELSE and a list, or nothing
 
 -- an element is read, and then the rest
 both : {A E : Type 0} {encode : A → List ℕ} {encodeE : E → List ℕ} (v : A) (w : E) (put : E → A → A)
-    → ((e : E) (x : A) → encode (put e x) ≡ encodeE e ++ encode x) → {n : ℕ} {m₀ m₁ mₑ : List ℕ} {s s₁ r : Step} {P : Reader E} {R W : Reader A}
-    → 3 * n ≤ free_of s → ((us : List T.Token) → W us ≡ on_read (P us) (λ e. ◌>>=◌ R (λ x. give (put e x)))) → Did encodeE n m₀ m₁ s s₁ P
-    → Did encode n m₁ mₑ s₁ r R → Did encode n m₀ mₑ s r W
+    → ((e : E) (x : A) → encode (put e x) ≡ encodeE e ++ encode x) → {m₀ m₁ mₑ : List ℕ} {s s₁ r : Step} {P : Reader E} {R W : Reader A}
+    → 3 * count_of s ≤ free_of s → ((us : List T.Token) → W us ≡ on_read (P us) (λ e. ◌>>=◌ R (λ x. give (put e x)))) → Did encodeE m₀ m₁ s s₁ P
+    → Did encode m₁ mₑ s₁ r R → Did encode m₀ mₑ s r W
 unfolding ◌>>=◌
 both v w put puts behind same first others = begin (named same (bind behind w first (λ e. bind behind v others (λ x. gives (put e x) (puts e x)))))
 
 -- the loop ends, and what is behind it is read
-module _ {A : Type 0} {encode : A → List ℕ} {R : ℕ → Reader A} (each more : ℕ) {n : ℕ} {m₁ : List ℕ} {s₁ : Step} (behind : 3 * n ≤ free_of s₁) where
+module _ {A : Type 0} {encode : A → List ℕ} {R : ℕ → Reader A} (each more : ℕ) {m₁ : List ℕ} {s₁ : Step} (behind : 3 * count_of s₁ ≤ free_of s₁) where
   loops_end : {E : Type 0} (w : E) {encodeE : E → List ℕ} (last : E → A) → ((e : E) → encode (last e) ≡ encodeE e)
-      → (Q : ℕ → Reader E) {m mₑ : List ℕ} {s r : Step} → Loops encode R each more n m₁ s₁ m s
-      → ((f : ℕ) (us : List T.Token) → token_at n m s ≡ seen (next us) → R f us ≡ on_read (Q f us) (λ e. give (last e)))
-      → DidWith each more encodeE n m mₑ s r Q → DidWith each more encode n m₁ mₑ s₁ r R
+      → (Q : ℕ → Reader E) {m mₑ : List ℕ} {s r : Step} → Loops encode R each more m₁ s₁ m s
+      → ((f : ℕ) (us : List T.Token) → token_at m s ≡ seen (next us) → R f us ≡ on_read (Q f us) (λ e. give (last e)))
+      → DidWith each more encodeE m mₑ s r Q → DidWith each more encode m₁ mₑ s₁ r R
   unfolding ◌>>=◌ give on_read
   loops_end w last e Q {mₑ} {r} old ends did F h = begin (old mₑ r F h (λ v wrap q f h'.
       knows behind (λ us z. ap (λ o. on_read o (λ x. give (wrap x))) (ends f us z) ∙ joins (Q f us) _ _)
@@ -159,8 +168,8 @@ abbrev pub more_branches : ℕ → ℕ → ℕ → Reader Branches
 more_branches d q f = when ELSIF (branches f d q) (when ELSE (◌>>◌ skip (◌>>=◌ (list f d q) (λ e. give (else_b e)))) (give no_else))
 
 -- the loop's invariant, as for a list
-abbrev pub BranchLoop : ℕ → ℕ → ℕ → List ℕ → Step → List ℕ → Step → Type 0
-BranchLoop d q n m₁ s₁ m s = Loops branch_cells (more_branches d q) 3 3 n m₁ s₁ m s
+abbrev pub BranchLoop : ℕ → ℕ → List ℕ → Step → List ℕ → Step → Type 0
+BranchLoop d q m₁ s₁ m s = Loops branch_cells (more_branches d q) 3 3 m₁ s₁ m s
 
 -- a branch before the others
 abbrev put_branch : Branch → Branches → Branches
@@ -201,33 +210,34 @@ unfolding when
 no_elsif d q f us e = rw (ne_eqb _ _ e) (else_read no_else else_b f d q us)
 
 -- the loop begins, behind the first branch
-pub branches_start : (d q n : ℕ) (m₁ : List ℕ) (s₁ : Step) → BranchLoop d q n m₁ s₁ m₁ s₁
-branches_start d q n m₁ s₁ = loops_start branch_cells (more_branches d q) 3 3 n m₁ s₁
+pub branches_start : (d q : ℕ) (m₁ : List ℕ) (s₁ : Step) → BranchLoop d q m₁ s₁ m₁ s₁
+branches_start d q m₁ s₁ = loops_start branch_cells (more_branches d q) 3 3 m₁ s₁
 
--- ELSIF, and a branch is read
-pub branches-turn : (d q : ℕ) {n k : ℕ} {m₁ m m' : List ℕ} {s₁ s s'' s' : Step} → 3 * n ≤ free_of s₁ → 3 * n ≤ free_of s → BranchLoop d q n m₁ s₁ m s
-    → k ≡ kind_at n m s → k ≡ ELSIF → s'' ≡ skipped n s → DidWith 3 3 condition_cells n m m' s'' s' (λ f. one_condition f d q) → next_of n s'' ≤ next_of n s'
-    → BranchLoop d q n m₁ s₁ m' s'
-branches-turn d q {n} {m₁} {m} {s₁} {s} {s''} behind near old sees holds past did more =
-    let ahead = some-ahead n m s (omega arith) in
-    let moved : next_of n s'' ≡ next_of n s + 1 = rw past (skipped_one n s ahead).0 in
-    loops_step branch_cells (more_branches d q) 3 3 n m₁ s₁ behind any_branch condition_cells (λ f. ◌>>◌ skip (one_condition f d q)) put_branch put_branch_lem old
-    (λ g us z. elsif-branch d q g us (kind-of n m s us sees z ∙ holds))
-    (λ g h. begin (skips_on near (rw (← past) (ends (did g (omega arith))))))
-    (omega arith)
+module _ (d q : ℕ) {m₁ : List ℕ} {s₁ : Step} (behind : 3 * count_of s₁ ≤ free_of s₁) where
+  -- ELSIF, and a branch is read
+  pub branches-turn : {m m'' m' : List ℕ} {s s'' s' : Step} → 3 * count_of s ≤ free_of s → BranchLoop d q m₁ s₁ m s → kind_at m s ≡ ELSIF → Skips m m'' s s''
+      → DidWith 3 3 condition_cells m'' m' s'' s' (λ f. one_condition f d q) → left_of s'' < left_of s → left_of s' < left_of s → BranchLoop d q m₁ s₁ m' s'
+  branches-turn {m} {s} near old sees past did less more =
+      loops_step branch_cells (more_branches d q) 3 3 m₁ s₁ behind any_branch condition_cells (λ f. ◌>>◌ skip (one_condition f d q)) put_branch put_branch_lem old
+      (λ g us z. elsif-branch d q g us (kind_left m s us z ∙ sees))
+      (λ g h. begin (skips_on near past (rw past.1 (ends (rw past.1 at (did g (omega arith)))))))
+      (omega arith)
 
--- no ELSIF: ELSE or nothing is read, and with it all that is behind the first branch
-pub branches_done : (d q : ℕ) {n k : ℕ} {m₁ m mₑ : List ℕ} {s₁ s r : Step} → 3 * n ≤ free_of s₁ → BranchLoop d q n m₁ s₁ m s → k ≡ kind_at n m s
-    → (k ≡ ELSIF → ⊥) → DidWith 3 3 (otherwise_cells END_IF) n m mₑ s r (λ f. otherwise f d q) → DidWith 3 3 branch_cells n m₁ mₑ s₁ r (more_branches d q)
-branches_done d q {n} {m} {s} behind old sees fails did =
-    loops_end 3 3 behind none (or_else no_else else_b) last_branch (λ f. otherwise f d q) old
-    (λ f us z. no_elsif d q f us (λ e. fails (sym (kind-of n m s us sees z) ∙ e))) did
+  -- it is refused
+  pub branches-refused : {m : List ℕ} {x p : ℕ} → BranchLoop d q m₁ s₁ m (Bad x p) → DidWith 3 3 branch_cells m₁ m s₁ (Bad x p) (more_branches d q)
+  branches-refused old = loops-refused branch_cells (more_branches d q) 3 3 m₁ s₁ old
+
+  -- no ELSIF: ELSE or nothing is read, and with it all that is behind the first branch
+  pub branches_done : {m mₑ : List ℕ} {s r : Step} → BranchLoop d q m₁ s₁ m s → (kind_at m s ≡ ELSIF → ⊥) → DidWith 3 3 (otherwise_cells END_IF) m mₑ s r (λ f. otherwise f d q)
+      → DidWith 3 3 branch_cells m₁ mₑ s₁ r (more_branches d q)
+  branches_done {m} {s} old other did =
+      loops_end 3 3 behind none (or_else no_else else_b) last_branch (λ f. otherwise f d q) old
+      (λ f us z. no_elsif d q f us (λ e. other (sym (kind_left m s us z) ∙ e))) did
 
 -- the first branch, and all that is behind it
-pub branches_first : (d q : ℕ) {n : ℕ} {m₀ m₁ mₑ : List ℕ} {s s₁ r : Step} → 3 * n ≤ free_of s
-    → DidWith 3 3 condition_cells n m₀ m₁ s s₁ (λ f. one_condition f d q) → next_of n s ≤ next_of n s₁ → DidWith 3 3 branch_cells n m₁ mₑ s₁ r (more_branches d q)
-    → DidWith 3 3 branch_cells n m₀ mₑ s r (λ f. conditions (expr f 0 1) (list f d q) (branches f d q))
-branches_first d q behind first more others f h = both no_else any_branch put_branch put_branch_lem behind (one_branch_lem d q f) (first f h) (others f (omega arith))
+pub branches_first : (f d q : ℕ) {m₀ m₁ mₑ : List ℕ} {s s₁ r : Step} → 3 * count_of s ≤ free_of s → Did condition_cells m₀ m₁ s s₁ (one_condition f d q)
+    → Did branch_cells m₁ mₑ s₁ r (more_branches d q f) → Did branch_cells m₀ mₑ s r (conditions (expr f 0 1) (list f d q) (branches f d q))
+branches_first f d q behind first others = both no_else any_branch put_branch put_branch_lem behind (one_branch_lem d q f) first others
 
 -- Groups of CASE
 
@@ -236,8 +246,8 @@ abbrev pub more_groups : ℕ → ℕ → ℕ → Reader Groups
 more_groups d q f = whether starts_constant (groups f d q) (when ELSE (◌>>◌ skip (◌>>=◌ (list f d q) (λ e. give (else_g e)))) (give no_other))
 
 -- the loop's invariant. A group is read with one fuel less than what the loop has left, and needs three more than its tokens: so the loop has four
-abbrev pub GroupLoop : ℕ → ℕ → ℕ → List ℕ → Step → List ℕ → Step → Type 0
-GroupLoop d q n m₁ s₁ m s = Loops group_cells (more_groups d q) 3 4 n m₁ s₁ m s
+abbrev pub GroupLoop : ℕ → ℕ → List ℕ → Step → List ℕ → Step → Type 0
+GroupLoop d q m₁ s₁ m s = Loops group_cells (more_groups d q) 3 4 m₁ s₁ m s
 
 -- a group before the others
 abbrev put_group : Group → Groups → Groups
@@ -277,75 +287,32 @@ no_group : (d q f : ℕ) (us : List T.Token) → starts_constant (next us).kind 
 unfolding whether
 no_group d q f us e = rw e (else_read no_other else_g f d q us)
 
--- a constant starts with a token that is not the end
-constant-starts : (k : ℕ) → starts_constant k ≡ true → 1 ≤ k
-unfolding starts_constant
-constant-starts zero e = let z : ◌≡◌ {A = ℕ} 0 1 = cc in absurd (omega arith)
-constant-starts (suc k) e = omega arith
-
--- where the test says that a constant starts, there is a token
-pub constant-ahead : (n : ℕ) (m : List ℕ) (s : Step) {k : ℕ} {b : Bool} → k ≡ kind_at n m s → b ≡ starts_constant k → b ≡ true → next_of n s < n
-constant-ahead n m s sees tests holds = some-ahead n m s (rw sees at (constant-starts _ (sym tests ∙ holds)))
-
--- a group takes a token, or there are none left
-fewer : (n a b : ℕ) → a < n → (b < n → a < b) → n - b < n - a
-fewer n a b h more = go (ltb b n) refl
-  where
-    go : (t : Bool) → ltb b n ≡ t → n - b < n - a
-    go true e = let l = more (ltb-true b n e) in omega arith
-    go false e = let l = ltb-false b n e in omega arith
-
 -- the loop begins, behind the first group
-pub groups_start : (d q n : ℕ) (m₁ : List ℕ) (s₁ : Step) → GroupLoop d q n m₁ s₁ m₁ s₁
-groups_start d q n m₁ s₁ = loops_start group_cells (more_groups d q) 3 4 n m₁ s₁
+pub groups_start : (d q : ℕ) (m₁ : List ℕ) (s₁ : Step) → GroupLoop d q m₁ s₁ m₁ s₁
+groups_start d q m₁ s₁ = loops_start group_cells (more_groups d q) 3 4 m₁ s₁
 
--- a constant starts, and a group is read
-pub groups-turn : (d q : ℕ) {n k : ℕ} {b : Bool} {m₁ m m' : List ℕ} {s₁ s s' : Step} → 3 * n ≤ free_of s₁ → GroupLoop d q n m₁ s₁ m s → k ≡ kind_at n m s
-    → b ≡ starts_constant k → b ≡ true → DidWith 3 3 labelled_cells n m m' s s' (λ f. one_labelled f d q) → (next_of n s' < n → next_of n s < next_of n s')
-    → GroupLoop d q n m₁ s₁ m' s'
-groups-turn d q {n} {m₁} {m} {s₁} {s} {s'} behind old sees tests holds did more =
-    let ahead = constant-ahead n m s sees tests holds in
-    loops_step group_cells (more_groups d q) 3 4 n m₁ s₁ behind any_group labelled_cells (λ f. one_labelled f d q) put_group put_group_lem old
-    (λ g us z. next_group d q g us (rw (kind-of n m s us sees z) (sym tests ∙ holds)))
-    (λ g h. did g (omega arith))
-    (omega (arith, fewer n _ _ ahead more))
+module _ (d q : ℕ) {m₁ : List ℕ} {s₁ : Step} (behind : 3 * count_of s₁ ≤ free_of s₁) where
+  -- a constant starts, and a group is read
+  pub groups-turn : {m m' : List ℕ} {s s' : Step} → GroupLoop d q m₁ s₁ m s → starts_constant (kind_at m s) ≡ true
+      → DidWith 3 3 labelled_cells m m' s s' (λ f. one_labelled f d q) → left_of s' < left_of s → GroupLoop d q m₁ s₁ m' s'
+  groups-turn {m} {s} old holds did more =
+      loops_step group_cells (more_groups d q) 3 4 m₁ s₁ behind any_group labelled_cells (λ f. one_labelled f d q) put_group put_group_lem old
+      (λ g us z. next_group d q g us (ap starts_constant (kind_left m s us z) ∙ holds))
+      (λ g h. did g (omega arith))
+      (omega arith)
 
--- no constant starts: ELSE or nothing is read, and with it all that is behind the first group
-pub groups_done : (d q : ℕ) {n k : ℕ} {b : Bool} {m₁ m mₑ : List ℕ} {s₁ s r : Step} → 3 * n ≤ free_of s₁ → GroupLoop d q n m₁ s₁ m s → k ≡ kind_at n m s
-    → b ≡ starts_constant k → b ≡ false → DidWith 3 3 (otherwise_cells END_CASE) n m mₑ s r (λ f. otherwise f d q)
-    → DidWith 3 4 group_cells n m₁ mₑ s₁ r (more_groups d q)
-groups_done d q {n} {m} {s} behind old sees tests fails did =
-    loops_end 3 4 behind none (or_else no_other else_g) last_group (λ f. otherwise f d q) old
-    (λ f us z. no_group d q f us (rw (kind-of n m s us sees z) (sym tests ∙ fails))) (λ f h. did f (omega arith))
+  -- it is refused
+  pub groups-refused : {m : List ℕ} {x p : ℕ} → GroupLoop d q m₁ s₁ m (Bad x p) → DidWith 3 4 group_cells m₁ m s₁ (Bad x p) (more_groups d q)
+  groups-refused old = loops-refused group_cells (more_groups d q) 3 4 m₁ s₁ old
 
--- where no token is left, nothing is behind a group, however much fuel there is
-nothing_left : (d q f : ℕ) (us : List T.Token) → (next us).kind ≡ FINISH → more_groups d q f us ≡ got no_other us
-unfolding whether when starts_constant give
-nothing_left d q f us e = rw e
-
--- the kind behind the last token is that of the end
-none_ahead : (n : ℕ) (m : List ℕ) (s : Step) → n ≤ next_of n s → kind_at n m s ≡ FINISH
-none_ahead n m s l = go (kind_at n m s) refl
-  where
-    go : (k : ℕ) → kind_at n m s ≡ k → k ≡ FINISH
-    go zero e = refl
-    go (suc k) e = let a = some-ahead n m s (omega arith) in absurd (omega arith)
+  -- no constant starts: ELSE or nothing is read, and with it all that is behind the first group
+  pub groups_done : {m mₑ : List ℕ} {s r : Step} → GroupLoop d q m₁ s₁ m s → starts_constant (kind_at m s) ≡ false → DidWith 3 3 (otherwise_cells END_CASE) m mₑ s r (λ f. otherwise f d q)
+      → DidWith 3 4 group_cells m₁ mₑ s₁ r (more_groups d q)
+  groups_done {m} {s} old fails did =
+      loops_end 3 4 behind none (or_else no_other else_g) last_group (λ f. otherwise f d q) old
+      (λ f us z. no_group d q f us (ap starts_constant (kind_left m s us z) ∙ fails)) (λ f h. did f (omega arith))
 
 -- the first group, and all that is behind it
-pub groups_first : (d q : ℕ) {n : ℕ} {m₀ m₁ mₑ : List ℕ} {s s₁ r : Step} → 3 * n ≤ free_of s → 3 * n ≤ free_of s₁
-    → DidWith 3 3 labelled_cells n m₀ m₁ s s₁ (λ f. one_labelled f d q) → (next_of n s₁ < n → next_of n s < next_of n s₁)
-    → DidWith 3 4 group_cells n m₁ mₑ s₁ r (more_groups d q) → DidWith 3 3 group_cells n m₀ mₑ s r (λ f. one_group (labels f) (list f d q) (groups f d q))
-groups_first d q {n} {m₁} {mₑ} {s} {s₁} {r} behind near first more others f h =
-    both no_other any_group put_group put_group_lem behind (one_group_lem d q f) (first f h) (go (ltb (next_of n s₁) n) refl)
-  where
-    alike : n ≤ next_of n s₁ → (us : List T.Token) → token_at n m₁ s₁ ≡ seen (next us) → more_groups d q f us ≡ more_groups d q (suc f) us
-    alike l us z = let k = kind-of n m₁ s₁ us refl z ∙ none_ahead n m₁ s₁ l in nothing_left d q f us k ∙ sym (nothing_left d q (suc f) us k)
-
-    go : (t : Bool) → ltb (next_of n s₁) n ≡ t → Did group_cells n m₁ mₑ s₁ r (more_groups d q f)
-    go true e =
-        let a = ltb-true _ n e in
-        let l = more a in
-        others f (omega arith)
-    go false e =
-        let l = ltb-false _ n e in
-        begin (knows near (alike l) (ends (others (suc f) (omega arith))))
+pub groups_first : (f d q : ℕ) {m₀ m₁ mₑ : List ℕ} {s s₁ r : Step} → 3 * count_of s ≤ free_of s → Did labelled_cells m₀ m₁ s s₁ (one_labelled f d q)
+    → Did group_cells m₁ mₑ s₁ r (more_groups d q f) → Did group_cells m₀ mₑ s r (one_group (labels f) (list f d q) (groups f d q))
+groups_first f d q behind first others = both no_other any_group put_group put_group_lem behind (one_group_lem d q f) first others

@@ -1,85 +1,114 @@
 // Constants, and the labels of CASE.
-ghost use Rattle.std.specs.Prelude.{◌≡◌, length};
+ghost use Rattle.std.specs.Prelude.{◌≡◌, ◌≤◌};
 ghost use Rattle.rules.specs.Cells.{con_cells, maybe_cells, label_cells, labels_cells};
 ghost use Rattle.rules.specs.Kinds.{INT};
-ghost use Rattle.rules.specs.Syntax.{constant, maybe, one_label, labels, take, starts_constant};
-ghost use Rattle.parse.specs.Steps.{Fits, Moves};
-ghost use Rattle.parse.specs.Reading.{Did, DidWith};
+ghost use Rattle.rules.specs.KindNumbers.{kind_number};
+ghost use Rattle.rules.specs.Syntax.{constant, maybe, one_label, labels, starts_constant, take};
+ghost use Rattle.parse.specs.Steps.{Fits, Stays, Moves, Begins};
+ghost use Rattle.parse.specs.Reading.{Reads, ReadsWith};
 ghost use Rattle.parse.specs.Parts.{integer_cells};
 
-use super::steps::{Step, kind, next, skip, take, write};
-use rules::Kind;
+use super::parser::Parser;
+use rules::{Kind, Refusal};
 
-pub(crate) fn starts_constant(kind: u32) -> bool
-    ensures { result ≡ starts_constant kind }
+#[tactic(auto, unfolding(rules::specs::Syntax::starts_constant))]
+fn starts_constant(kind: Kind) -> bool
+    ensures { result ≡ starts_constant (kind_number kind) }
 {
-    match kind {
-        Kind::INT | Kind::TRUE | Kind::FALSE | Kind::MINUS | Kind::PLUS => true,
-        _ => false,
-    }
+    matches!(
+        kind,
+        Kind::Int | Kind::True | Kind::False | Kind::Minus | Kind::Plus
+    )
 }
 
-// An integer, in a constant with this sign that starts at this place.
-fn integer(memory: &mut [u32], count: usize, s: Step, sign: u32, place: u32) -> Step
-    requires { Fits count (length memory.old) 0 s }
-    ensures fine { Moves count 0 s result }
-    ensures means { Did (integer_cells sign place) count memory.old memory.new s result (take INT) }
-{
-    let token = next(memory, count, s);
-    let taken = take(memory, count, s, Kind::INT);
-    let signed = write(memory, taken, sign, place, 0);
-    write(memory, signed, Kind::INT, token.place, token.datum)
-}
-
-pub(crate) fn constant(memory: &mut [u32], count: usize, s: Step) -> Step
-    requires { Fits count (length memory.old) 0 s }
-    ensures fine { Moves count 0 s result }
-    ensures means { Did con_cells count memory.old memory.new s result constant }
-{
-    let token = next(memory, count, s);
-    let k = token.kind;
-    match k {
-        Kind::MINUS | Kind::PLUS => integer(memory, count, skip(count, s), k, token.place),
-        Kind::TRUE | Kind::FALSE => write(memory, skip(count, s), k, token.place, 0),
-        _ => integer(memory, count, s, Kind::PLUS, token.place),
+impl Parser<'_> {
+    pub(crate) fn at_constant(&self) -> bool
+        requires { Fits 0 self.now }
+        ensures { Begins starts_constant self.now result }
+    {
+        self.kind().is_ok_and(starts_constant)
     }
-}
 
-// A constant if a token of this kind stands before it.
-pub(crate) fn maybe_constant(memory: &mut [u32], count: usize, s: Step, before: u32) -> Step
-    requires { Fits count (length memory.old) 3 s }
-    ensures fine { Moves count 3 s result }
-    ensures means { Did maybe_cells count memory.old memory.new s result (maybe before) }
-{
-    if kind(memory, count, s) == before {
-        return constant(memory, count, skip(count, s));
+    // An integer, in a constant with this sign that starts at this place.
+    fn integer(&mut self, sign: Kind, place: u32) -> Result<(), Refusal>
+        requires { Fits 0 self.old }
+        ensures stays { Stays self.old self.new }
+        ensures fine { Moves 0 self.old result self.new }
+        ensures means { Reads (integer_cells (kind_number sign) place) self.old result self.new (take INT) }
+    {
+        let token = self.token();
+        self.take(Kind::Int)?;
+        self.write(sign, place, 0);
+        self.write(Kind::Int, token.place, token.datum);
+        Ok(())
     }
-    write(memory, s, Kind::FINISH, 0, 0)
-}
 
-// A constant, or low`..`high.
-fn label(memory: &mut [u32], count: usize, s: Step) -> Step
-    requires { Fits count (length memory.old) 0 s }
-    ensures fine { Moves count 0 s result }
-    ensures means { Did label_cells count memory.old memory.new s result one_label }
-{
-    let low = constant(memory, count, s);
-    if kind(memory, count, low) != Kind::DOTS {
-        return low;
+    pub(crate) fn constant(&mut self) -> Result<(), Refusal>
+        requires { Fits 0 self.old }
+        ensures stays { Stays self.old self.new }
+        ensures fine { Moves 0 self.old result self.new }
+        ensures means { Reads con_cells self.old result self.new constant }
+    {
+        let place = self.token().place;
+        let kind = self.kind()?;
+        match kind {
+            Kind::Minus | Kind::Plus => {
+                self.skip();
+                self.integer(kind, place)
+            }
+            Kind::True | Kind::False => {
+                self.skip();
+                self.write(kind, place, 0);
+                Ok(())
+            }
+            _ => self.integer(Kind::Plus, place),
+        }
     }
-    let dots = write(memory, skip(count, low), Kind::DOTS, 0, 0);
-    constant(memory, count, dots)
-}
 
-// Labels with commas between.
-pub(crate) fn labels(memory: &mut [u32], count: usize, s: Step) -> Step
-    requires { Fits count (length memory.old) 3 s }
-    ensures fine { Moves count 3 s result }
-    ensures means { DidWith 1 1 labels_cells count memory.old memory.new s result labels }
-{
-    let mut r = label(memory, count, s);
-    while kind(memory, count, r) == Kind::COMMA {
-        r = label(memory, count, skip(count, r));
+    // A constant if a token of this kind stands before it.
+    pub(crate) fn maybe_constant(&mut self, before: Kind) -> Result<(), Refusal>
+        requires { Fits 3 self.old × (1 ≤ kind_number before) }
+        ensures stays { Stays self.old self.new }
+        ensures fine { Moves 3 self.old result self.new }
+        ensures means { Reads maybe_cells self.old result self.new (maybe (kind_number before)) }
+    {
+        if self.is_at(before) {
+            self.skip();
+            return self.constant();
+        }
+        self.write(Kind::Finish, 0, 0);
+        Ok(())
     }
-    write(memory, r, Kind::COLON, 0, 0)
+
+    // A constant, or low`..`high.
+    fn label(&mut self) -> Result<(), Refusal>
+        requires { Fits 0 self.old }
+        ensures stays { Stays self.old self.new }
+        ensures fine { Moves 0 self.old result self.new }
+        ensures means { Reads label_cells self.old result self.new one_label }
+    {
+        self.constant()?;
+        if !self.is_at(Kind::Dots) {
+            return Ok(());
+        }
+        self.skip();
+        self.write(Kind::Dots, 0, 0);
+        self.constant()
+    }
+
+    // Labels with commas between.
+    pub(crate) fn labels(&mut self) -> Result<(), Refusal>
+        requires { Fits 3 self.old }
+        ensures stays { Stays self.old self.new }
+        ensures fine { Moves 3 self.old result self.new }
+        ensures means { ReadsWith 1 1 labels_cells self.old result self.new labels }
+    {
+        self.label()?;
+        while self.is_at(Kind::Comma) {
+            self.skip();
+            self.label()?;
+        }
+        self.write(Kind::Colon, 0, 0);
+        Ok(())
+    }
 }

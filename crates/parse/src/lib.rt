@@ -4,40 +4,40 @@
 mod constants;
 mod declarations;
 mod expressions;
+mod parser;
 mod statements;
-mod steps;
 
 ghost use Rattle.std.specs.Prelude.{◌≡◌};
 ghost use Rattle.rules.specs.Cells.{parsed};
 ghost use Rattle.rules.specs.Answers.{left, TreeFits};
 
-use rules::{Limits, Stage};
-use steps::Step;
+use parser::Parser;
+use rules::{Fault, Limits, Refusal};
 
 // The tokens of the text from the first lent number on, and the tree from number Limits::TOKEN_NUMBERS on.
-pub fn parse(text: &[u8], memory: &mut [u32]) -> Stage
+#[tactic(auto, using(crate::proofs::Whole::parsed_little))]
+pub fn parse(text: &[u8], memory: &mut [u32]) -> Result<usize, Refusal>
     ensures means { left result memory.new ≡ parsed text.now memory.old }
     ensures fits { TreeFits result }
 {
     if memory.len() < Limits::MEMORY_NUMBERS {
-        return Stage::Refused {
-            number: 17,
+        return Err(Refusal {
+            fault: Fault::ShortMemory,
             place: 0,
-        };
+        });
     }
-    let scanned = scan::scan(text, memory);
-    let Stage::Left(count) = scanned else {
-        return scanned;
+    let count = scan::scan(text, memory)?;
+    let mut parser = Parser {
+        memory,
+        count,
+        next: 0,
+        free: Limits::TOKEN_NUMBERS,
     };
-    let end = declarations::program(memory, count);
-    match end {
-        Step::Ok(next, free) => Stage::Left(free - Limits::TOKEN_NUMBERS),
-        Step::Bad(number, place) => {
+    match parser.program() {
+        Ok(()) => Ok(parser.free - Limits::TOKEN_NUMBERS),
+        Err(refusal) => {
             scan::clear(memory);
-            Stage::Refused {
-                number,
-                place: place as usize,
-            }
+            Err(refusal)
         }
     }
 }

@@ -1,263 +1,313 @@
 // Statements and lists of them. They are written in prefix, and each list is closed by a cell.
-ghost use Rattle.std.specs.Prelude.{◌≡◌, ◌<◌, length};
-ghost use Rattle.rules.specs.Cells.{name_cell, stm_cells, list_cells, branch_cells, group_cells};
+ghost use Rattle.std.specs.Prelude.{◌≡◌, ◌+◌, ◌<◌, ◌≤◌, length, OnOk};
+ghost use Rattle.rules.specs.Cells.{WHOLE, name_cell, stm_cells, list_cells, branch_cells, group_cells};
+ghost use Rattle.rules.specs.KindNumbers.{kind_number};
 ghost use Rattle.rules.specs.Syntax.{take_name, assignment, if_then, case_of, for_do, while_do, repeat_until, expr, labels, one_group, statement, list, branches, groups};
-ghost use Rattle.parse.specs.Steps.{next_of, Fits, Moves};
-ghost use Rattle.parse.specs.Reading.{Did, DidWith};
+ghost use Rattle.parse.specs.Steps.{Fits, Stays, Moves, Begins, kind_ahead};
+ghost use Rattle.parse.specs.Reading.{Reads, ReadsWith};
 ghost use Rattle.parse.specs.Parts.{element, element_cells, starts_element, one_condition, condition_cells, one_labelled, labelled_cells, otherwise, otherwise_cells, conditions, compound};
 
-use super::constants::{labels, maybe_constant, starts_constant};
-use super::expressions::whole;
-use super::steps::{Step, kind, next, refuse, skip, take, write};
-use rules::Kind;
+use super::parser::Parser;
+use rules::{Fault, Kind, Refusal};
 
-fn starts_element(kind: u32) -> bool
-    ensures { result ≡ starts_element kind }
+// How many IFs, CASEs and loops are around, and how many of them are FORs.
+#[derive(Clone, Copy)]
+pub(crate) struct Nesting {
+    pub statements: u32,
+    pub fors: u32,
+}
+
+// How many may be.
+const MOST: Nesting = Nesting {
+    statements: 16,
+    fors: 8,
+};
+
+#[tactic(auto, unfolding(crate::specs::Parts::starts_element, rules::specs::Syntax::starts_statement))]
+fn starts_element(kind: Kind) -> bool
+    ensures { result ≡ starts_element (kind_number kind) }
 {
-    match kind {
-        Kind::SEMI
-        | Kind::NAME
-        | Kind::IF
-        | Kind::CASE
-        | Kind::FOR
-        | Kind::WHILE
-        | Kind::REPEAT
-        | Kind::EXIT => true,
-        _ => false,
+    matches!(
+        kind,
+        Kind::Semi
+            | Kind::Name
+            | Kind::If
+            | Kind::Case
+            | Kind::For
+            | Kind::While
+            | Kind::Repeat
+            | Kind::Exit
+    )
+}
+
+impl Parser<'_> {
+    fn at_element(&self) -> bool
+        requires { Fits 0 self.now }
+        ensures { Begins starts_element self.now result }
+    {
+        self.kind().is_ok_and(starts_element)
     }
-}
 
-// A name, in a cell with this tag.
-fn named(memory: &mut [u32], count: usize, s: Step, tag: u32) -> Step
-    requires { Fits count (length memory.old) 0 s }
-    ensures fine { Moves count 0 s result }
-    ensures means { Did (name_cell tag) count memory.old memory.new s result take_name }
-{
-    let token = next(memory, count, s);
-    let taken = take(memory, count, s, Kind::NAME);
-    write(memory, taken, tag, token.place, token.datum)
-}
-
-fn assignment(memory: &mut [u32], count: usize, s: Step) -> Step
-    requires { Fits count (length memory.old) 3 s }
-    ensures fine { Moves count 0 s result }
-    ensures means { DidWith 2 2 stm_cells count memory.old memory.new s result (λ f. assignment (expr f 0 1)) }
-{
-    let name = named(memory, count, s, Kind::ASSIGN);
-    let assigned = take(memory, count, name, Kind::ASSIGN);
-    whole(memory, count, assigned)
-}
-
-// ELSE and a list, or the cell that stands for nothing.
-#[cycle(branch_branches_case_of_compound_element_for_do_group_groups_if_then_list_otherwise_repeat_until_statement_while_do)]
-fn otherwise(
-    memory: &mut [u32],
-    count: usize,
-    s: Step,
-    nothing: u32,
-    nesting: u32,
-    fors: u32,
-) -> Step
-    requires { Fits count (length memory.old) 3 s }
-    ensures fine { Moves count 3 s result }
-    ensures means { DidWith 3 3 (otherwise_cells nothing) count memory.old memory.new s result (λ f. otherwise f nesting fors) }
-{
-    if kind(memory, count, s) == Kind::ELSE {
-        let other = write(memory, skip(count, s), Kind::ELSE, 0, 0);
-        return list(memory, count, other, nesting, fors);
+    // A name, in a cell with this tag.
+    fn named(&mut self, tag: Kind) -> Result<(), Refusal>
+        requires { Fits 0 self.old }
+        ensures stays { Stays self.old self.new }
+        ensures fine { Moves 0 self.old result self.new }
+        ensures means { Reads (name_cell (kind_number tag)) self.old result self.new take_name }
+    {
+        let token = self.token();
+        self.take(Kind::Name)?;
+        self.write(tag, token.place, token.datum);
+        Ok(())
     }
-    write(memory, s, nothing, 0, 0)
-}
 
-// A condition, THEN, a list.
-#[cycle(branch_branches_case_of_compound_element_for_do_group_groups_if_then_list_otherwise_repeat_until_statement_while_do)]
-fn branch(memory: &mut [u32], count: usize, s: Step, nesting: u32, fors: u32) -> Step
-    requires { Fits count (length memory.old) 6 s }
-    ensures fine { Moves count 3 s result }
-    ensures means { DidWith 3 3 condition_cells count memory.old memory.new s result (λ f. one_condition f nesting fors) }
-{
-    let head = write(memory, s, Kind::THEN, 0, 0);
-    let condition = whole(memory, count, head);
-    let then = take(memory, count, condition, Kind::THEN);
-    list(memory, count, then, nesting, fors)
-}
-
-// The branches of IF behind the word, and ELSE.
-#[cycle(branch_branches_case_of_compound_element_for_do_group_groups_if_then_list_otherwise_repeat_until_statement_while_do)]
-fn branches(memory: &mut [u32], count: usize, s: Step, nesting: u32, fors: u32) -> Step
-    requires { Fits count (length memory.old) 6 s }
-    ensures fine { Moves count 6 s result }
-    ensures means { DidWith 3 3 branch_cells count memory.old memory.new s result
-        (λ f. conditions (expr f 0 1) (list f nesting fors) (branches f nesting fors)) }
-{
-    let mut r = branch(memory, count, s, nesting, fors);
-    while kind(memory, count, r) == Kind::ELSIF {
-        r = branch(memory, count, skip(count, r), nesting, fors);
+    fn assignment(&mut self) -> Result<(), Refusal>
+        requires { Fits 3 self.old }
+        ensures stays { Stays self.old self.new }
+        ensures fine { Moves 0 self.old result self.new }
+        ensures means { ReadsWith 2 2 stm_cells self.old result self.new (λ f. assignment (expr f 0 1)) }
+    {
+        self.named(Kind::Assign)?;
+        self.take(Kind::Assign)?;
+        self.whole()
     }
-    otherwise(memory, count, r, Kind::END_IF, nesting, fors)
-}
 
-#[cycle(branch_branches_case_of_compound_element_for_do_group_groups_if_then_list_otherwise_repeat_until_statement_while_do)]
-fn if_then(memory: &mut [u32], count: usize, s: Step, nesting: u32, fors: u32) -> Step
-    requires { Fits count (length memory.old) 3 s × (next_of count s < count) }
-    ensures fine { Moves count 0 s result }
-    ensures means { DidWith 3 1 stm_cells count memory.old memory.new s result (λ f. if_then (branches f nesting fors)) }
-{
-    let head = write(memory, skip(count, s), Kind::IF, 0, 0);
-    let r = branches(memory, count, head, nesting, fors);
-    take(memory, count, r, Kind::END_IF)
-}
-
-// Labels, `:`, a list.
-#[cycle(branch_branches_case_of_compound_element_for_do_group_groups_if_then_list_otherwise_repeat_until_statement_while_do)]
-fn group(memory: &mut [u32], count: usize, s: Step, nesting: u32, fors: u32) -> Step
-    requires { Fits count (length memory.old) 3 s }
-    ensures fine { Moves count 0 s result }
-    ensures on { next_of count result < count → next_of count s < next_of count result }
-    ensures means { DidWith 3 3 labelled_cells count memory.old memory.new s result (λ f. one_labelled f nesting fors) }
-{
-    let head = labels(memory, count, s);
-    let colon = take(memory, count, head, Kind::COLON);
-    list(memory, count, colon, nesting, fors)
-}
-
-// The groups of CASE, and ELSE.
-#[cycle(branch_branches_case_of_compound_element_for_do_group_groups_if_then_list_otherwise_repeat_until_statement_while_do)]
-fn groups(memory: &mut [u32], count: usize, s: Step, nesting: u32, fors: u32) -> Step
-    requires { Fits count (length memory.old) 3 s }
-    ensures fine { Moves count 3 s result }
-    ensures means { DidWith 3 3 group_cells count memory.old memory.new s result
-        (λ f. one_group (labels f) (list f nesting fors) (groups f nesting fors)) }
-{
-    let mut r = group(memory, count, s, nesting, fors);
-    while starts_constant(kind(memory, count, r)) {
-        r = group(memory, count, r, nesting, fors);
-    }
-    otherwise(memory, count, r, Kind::END_CASE, nesting, fors)
-}
-
-#[cycle(branch_branches_case_of_compound_element_for_do_group_groups_if_then_list_otherwise_repeat_until_statement_while_do)]
-fn case_of(memory: &mut [u32], count: usize, s: Step, nesting: u32, fors: u32) -> Step
-    requires { Fits count (length memory.old) 3 s × (next_of count s < count) }
-    ensures fine { Moves count 0 s result }
-    ensures means { DidWith 3 1 stm_cells count memory.old memory.new s result (λ f. case_of (expr f 0 1) (groups f nesting fors)) }
-{
-    let head = write(memory, skip(count, s), Kind::CASE, 0, 0);
-    let selector = whole(memory, count, head);
-    let of = take(memory, count, selector, Kind::OF);
-    let r = groups(memory, count, of, nesting, fors);
-    take(memory, count, r, Kind::END_CASE)
-}
-
-#[cycle(branch_branches_case_of_compound_element_for_do_group_groups_if_then_list_otherwise_repeat_until_statement_while_do)]
-fn for_do(memory: &mut [u32], count: usize, s: Step, nesting: u32, fors: u32) -> Step
-    requires { Fits count (length memory.old) 3 s × (next_of count s < count) }
-    ensures fine { Moves count 0 s result }
-    ensures means { DidWith 3 1 stm_cells count memory.old memory.new s result (λ f. for_do (expr f 0 1) (list f nesting fors)) }
-{
-    let head = named(memory, count, skip(count, s), Kind::FOR);
-    let assigned = take(memory, count, head, Kind::ASSIGN);
-    let initial = whole(memory, count, assigned);
-    let to = take(memory, count, initial, Kind::TO);
-    let bound = whole(memory, count, to);
-    let step = maybe_constant(memory, count, bound, Kind::BY);
-    let body = take(memory, count, step, Kind::DO);
-    let r = list(memory, count, body, nesting, fors);
-    take(memory, count, r, Kind::END_FOR)
-}
-
-#[cycle(branch_branches_case_of_compound_element_for_do_group_groups_if_then_list_otherwise_repeat_until_statement_while_do)]
-fn while_do(memory: &mut [u32], count: usize, s: Step, nesting: u32, fors: u32) -> Step
-    requires { Fits count (length memory.old) 3 s × (next_of count s < count) }
-    ensures fine { Moves count 0 s result }
-    ensures means { DidWith 3 1 stm_cells count memory.old memory.new s result (λ f. while_do (expr f 0 1) (list f nesting fors)) }
-{
-    let head = write(memory, skip(count, s), Kind::WHILE, 0, 0);
-    let condition = whole(memory, count, head);
-    let body = take(memory, count, condition, Kind::DO);
-    let r = list(memory, count, body, nesting, fors);
-    take(memory, count, r, Kind::END_WHILE)
-}
-
-#[cycle(branch_branches_case_of_compound_element_for_do_group_groups_if_then_list_otherwise_repeat_until_statement_while_do)]
-fn repeat_until(memory: &mut [u32], count: usize, s: Step, nesting: u32, fors: u32) -> Step
-    requires { Fits count (length memory.old) 3 s × (next_of count s < count) }
-    ensures fine { Moves count 0 s result }
-    ensures means { DidWith 3 1 stm_cells count memory.old memory.new s result (λ f. repeat_until (expr f 0 1) (list f nesting fors)) }
-{
-    let head = write(memory, skip(count, s), Kind::REPEAT, 0, 0);
-    let body = list(memory, count, head, nesting, fors);
-    let until = take(memory, count, body, Kind::UNTIL);
-    let r = whole(memory, count, until);
-    take(memory, count, r, Kind::END_REPEAT)
-}
-
-// IF, CASE and loops: within so many of them, and within so many FORs.
-#[cycle(branch_branches_case_of_compound_element_for_do_group_groups_if_then_list_otherwise_repeat_until_statement_while_do)]
-fn compound(memory: &mut [u32], count: usize, s: Step, nesting: u32, fors: u32) -> Step
-    requires { Fits count (length memory.old) 3 s × (next_of count s < count) }
-    ensures fine { Moves count 0 s result }
-    ensures means { DidWith 3 1 stm_cells count memory.old memory.new s result (λ f. compound f nesting fors) }
-{
-    let token = next(memory, count, s);
-    if 16 <= nesting {
-        return refuse(s, 10, token.place);
-    }
-    let k = token.kind;
-    match k {
-        Kind::IF => if_then(memory, count, s, nesting + 1, fors),
-        Kind::CASE => case_of(memory, count, s, nesting + 1, fors),
-        Kind::FOR => {
-            if 8 <= fors {
-                return refuse(s, 10, token.place);
-            }
-            for_do(memory, count, s, nesting + 1, fors + 1)
+    // ELSE and a list, or the cell that stands for nothing.
+    #[cycle(statements)]
+    fn otherwise(&mut self, nothing: Kind, nesting: Nesting) -> Result<(), Refusal>
+        requires { Fits 3 self.old }
+        ensures stays { Stays self.old self.new }
+        ensures fine { Moves 3 self.old result self.new }
+        ensures means { ReadsWith 3 3 (otherwise_cells (kind_number nothing)) self.old result self.new (λ f. otherwise f nesting.statements nesting.fors) }
+    {
+        if self.is_at(Kind::Else) {
+            self.skip();
+            self.write(Kind::Else, 0, 0);
+            return self.list(nesting);
         }
-        Kind::WHILE => while_do(memory, count, s, nesting + 1, fors),
-        _ => repeat_until(memory, count, s, nesting + 1, fors),
+        self.write(nothing, 0, 0);
+        Ok(())
     }
-}
 
-#[cycle(branch_branches_case_of_compound_element_for_do_group_groups_if_then_list_otherwise_repeat_until_statement_while_do)]
-fn statement(memory: &mut [u32], count: usize, s: Step, nesting: u32, fors: u32) -> Step
-    requires { Fits count (length memory.old) 3 s × (next_of count s < count) }
-    ensures fine { Moves count 0 s result }
-    ensures means { DidWith 3 2 stm_cells count memory.old memory.new s result (λ f. statement f nesting fors) }
-{
-    let token = next(memory, count, s);
-    let k = token.kind;
-    match k {
-        Kind::NAME => assignment(memory, count, s),
-        Kind::EXIT => write(memory, skip(count, s), Kind::EXIT, token.place, 0),
-        _ => compound(memory, count, s, nesting, fors),
+    // A condition, THEN, a list.
+    #[cycle(statements)]
+    fn branch(&mut self, nesting: Nesting) -> Result<(), Refusal>
+        requires { Fits 6 self.old }
+        ensures stays { Stays self.old self.new }
+        ensures fine { Moves 3 self.old result self.new }
+        ensures means { ReadsWith 3 3 condition_cells self.old result self.new (λ f. one_condition f nesting.statements nesting.fors) }
+    {
+        self.write(Kind::Then, 0, 0);
+        self.whole()?;
+        self.take(Kind::Then)?;
+        self.list(nesting)
     }
-}
 
-// A lone `;`, or a statement and its `;`.
-#[cycle(branch_branches_case_of_compound_element_for_do_group_groups_if_then_list_otherwise_repeat_until_statement_while_do)]
-fn element(memory: &mut [u32], count: usize, s: Step, nesting: u32, fors: u32) -> Step
-    requires { Fits count (length memory.old) 3 s × (next_of count s < count) }
-    ensures fine { Moves count 0 s result }
-    ensures on { next_of count s < next_of count result }
-    ensures means { DidWith 3 2 element_cells count memory.old memory.new s result (λ f. element f nesting fors) }
-{
-    if kind(memory, count, s) == Kind::SEMI {
-        return skip(count, s);
+    // The branches of IF behind the word, and ELSE.
+    #[cycle(statements)]
+    fn branches(&mut self, nesting: Nesting) -> Result<(), Refusal>
+        requires { Fits 6 self.old }
+        ensures stays { Stays self.old self.new }
+        ensures fine { Moves 6 self.old result self.new }
+        ensures means { ReadsWith 3 3 branch_cells self.old result self.new
+            (λ f. conditions (expr f 0 1) (list f nesting.statements nesting.fors) (branches f nesting.statements nesting.fors)) }
+    {
+        self.branch(nesting)?;
+        while self.is_at(Kind::Elsif) {
+            self.skip();
+            self.branch(nesting)?;
+        }
+        self.otherwise(Kind::EndIf, nesting)
     }
-    let r = statement(memory, count, s, nesting, fors);
-    take(memory, count, r, Kind::SEMI)
-}
 
-// A list ends at a token that starts no statement.
-#[cycle(branch_branches_case_of_compound_element_for_do_group_groups_if_then_list_otherwise_repeat_until_statement_while_do)]
-pub(crate) fn list(memory: &mut [u32], count: usize, s: Step, nesting: u32, fors: u32) -> Step
-    requires { Fits count (length memory.old) 3 s }
-    ensures fine { Moves count 3 s result }
-    ensures means { DidWith 3 3 list_cells count memory.old memory.new s result (λ f. list f nesting fors) }
-{
-    let mut r = s;
-    while starts_element(kind(memory, count, r)) {
-        r = element(memory, count, r, nesting, fors);
+    #[cycle(statements)]
+    fn if_then(&mut self, nesting: Nesting) -> Result<(), Refusal>
+        requires { Fits 3 self.old × (self.old.next < self.old.count) }
+        ensures stays { Stays self.old self.new }
+        ensures fine { Moves 0 self.old result self.new }
+        ensures means { ReadsWith 3 1 stm_cells self.old result self.new (λ f. if_then (branches f nesting.statements nesting.fors)) }
+    {
+        self.skip();
+        self.write(Kind::If, 0, 0);
+        self.branches(nesting)?;
+        self.take(Kind::EndIf)
     }
-    write(memory, r, Kind::FINISH, 0, 0)
+
+    // Labels, `:`, a list.
+    #[cycle(statements)]
+    fn group(&mut self, nesting: Nesting) -> Result<(), Refusal>
+        requires { Fits 3 self.old }
+        ensures stays { Stays self.old self.new }
+        ensures fine { Moves 0 self.old result self.new }
+        ensures on { OnOk result (self.old.next < self.new.next) }
+        ensures means { ReadsWith 3 3 labelled_cells self.old result self.new (λ f. one_labelled f nesting.statements nesting.fors) }
+    {
+        self.labels()?;
+        self.take(Kind::Colon)?;
+        self.list(nesting)
+    }
+
+    // The groups of CASE, and ELSE.
+    #[cycle(statements)]
+    fn groups(&mut self, nesting: Nesting) -> Result<(), Refusal>
+        requires { Fits 3 self.old }
+        ensures stays { Stays self.old self.new }
+        ensures fine { Moves 3 self.old result self.new }
+        ensures means { ReadsWith 3 3 group_cells self.old result self.new
+            (λ f. one_group (labels f) (list f nesting.statements nesting.fors) (groups f nesting.statements nesting.fors)) }
+    {
+        self.group(nesting)?;
+        while self.at_constant() {
+            self.group(nesting)?;
+        }
+        self.otherwise(Kind::EndCase, nesting)
+    }
+
+    #[cycle(statements)]
+    fn case_of(&mut self, nesting: Nesting) -> Result<(), Refusal>
+        requires { Fits 3 self.old × (self.old.next < self.old.count) }
+        ensures stays { Stays self.old self.new }
+        ensures fine { Moves 0 self.old result self.new }
+        ensures means { ReadsWith 3 1 stm_cells self.old result self.new (λ f. case_of (expr f 0 1) (groups f nesting.statements nesting.fors)) }
+    {
+        self.skip();
+        self.write(Kind::Case, 0, 0);
+        self.whole()?;
+        self.take(Kind::Of)?;
+        self.groups(nesting)?;
+        self.take(Kind::EndCase)
+    }
+
+    #[cycle(statements)]
+    fn for_do(&mut self, nesting: Nesting) -> Result<(), Refusal>
+        requires { Fits 3 self.old × (self.old.next < self.old.count) }
+        ensures stays { Stays self.old self.new }
+        ensures fine { Moves 0 self.old result self.new }
+        ensures means { ReadsWith 3 1 stm_cells self.old result self.new (λ f. for_do (expr f 0 1) (list f nesting.statements nesting.fors)) }
+    {
+        self.skip();
+        self.named(Kind::For)?;
+        self.take(Kind::Assign)?;
+        self.whole()?;
+        self.take(Kind::To)?;
+        self.whole()?;
+        self.maybe_constant(Kind::By)?;
+        self.take(Kind::Do)?;
+        self.list(nesting)?;
+        self.take(Kind::EndFor)
+    }
+
+    #[cycle(statements)]
+    fn while_do(&mut self, nesting: Nesting) -> Result<(), Refusal>
+        requires { Fits 3 self.old × (self.old.next < self.old.count) }
+        ensures stays { Stays self.old self.new }
+        ensures fine { Moves 0 self.old result self.new }
+        ensures means { ReadsWith 3 1 stm_cells self.old result self.new (λ f. while_do (expr f 0 1) (list f nesting.statements nesting.fors)) }
+    {
+        self.skip();
+        self.write(Kind::While, 0, 0);
+        self.whole()?;
+        self.take(Kind::Do)?;
+        self.list(nesting)?;
+        self.take(Kind::EndWhile)
+    }
+
+    #[cycle(statements)]
+    fn repeat_until(&mut self, nesting: Nesting) -> Result<(), Refusal>
+        requires { Fits 3 self.old × (self.old.next < self.old.count) }
+        ensures stays { Stays self.old self.new }
+        ensures fine { Moves 0 self.old result self.new }
+        ensures means { ReadsWith 3 1 stm_cells self.old result self.new (λ f. repeat_until (expr f 0 1) (list f nesting.statements nesting.fors)) }
+    {
+        self.skip();
+        self.write(Kind::Repeat, 0, 0);
+        self.list(nesting)?;
+        self.take(Kind::Until)?;
+        self.whole()?;
+        self.take(Kind::EndRepeat)
+    }
+
+    // IF, CASE and loops, within so many of them.
+    #[cycle(statements)]
+    fn compound(&mut self, kind: Kind, nesting: Nesting) -> Result<(), Refusal>
+        requires { Fits 3 self.old × (self.old.next < self.old.count) × (kind_ahead self.old ≡ kind_number kind) }
+        ensures stays { Stays self.old self.new }
+        ensures fine { Moves 0 self.old result self.new }
+        ensures means { ReadsWith 3 1 stm_cells self.old result self.new (λ f. compound f nesting.statements nesting.fors) }
+    {
+        if MOST.statements <= nesting.statements {
+            return Err(self.refusal(Fault::TooDeep));
+        }
+        let within = Nesting {
+            statements: nesting.statements + 1,
+            fors: nesting.fors,
+        };
+        match kind {
+            Kind::If => self.if_then(within),
+            Kind::Case => self.case_of(within),
+            Kind::For => {
+                if MOST.fors <= nesting.fors {
+                    return Err(self.refusal(Fault::TooDeep));
+                }
+                self.for_do(Nesting {
+                    statements: within.statements,
+                    fors: nesting.fors + 1,
+                })
+            }
+            Kind::While => self.while_do(within),
+            _ => self.repeat_until(within),
+        }
+    }
+
+    #[cycle(statements)]
+    fn statement(&mut self, nesting: Nesting) -> Result<(), Refusal>
+        requires { Fits 3 self.old × (self.old.next < self.old.count) × (kind_ahead self.old ≤ WHOLE) }
+        ensures stays { Stays self.old self.new }
+        ensures fine { Moves 0 self.old result self.new }
+        ensures means { ReadsWith 3 2 stm_cells self.old result self.new (λ f. statement f nesting.statements nesting.fors) }
+    {
+        let kind = self.kind()?;
+        match kind {
+            Kind::Name => self.assignment(),
+            Kind::Exit => {
+                let place = self.token().place;
+                self.skip();
+                self.write(Kind::Exit, place, 0);
+                Ok(())
+            }
+            _ => self.compound(kind, nesting),
+        }
+    }
+
+    // A lone `;`, or a statement and its `;`.
+    #[cycle(statements)]
+    fn element(&mut self, nesting: Nesting) -> Result<(), Refusal>
+        requires { Fits 3 self.old × (self.old.next < self.old.count) × (kind_ahead self.old ≤ WHOLE) }
+        ensures stays { Stays self.old self.new }
+        ensures fine { Moves 0 self.old result self.new }
+        ensures on { OnOk result (self.old.next < self.new.next) }
+        ensures means { ReadsWith 3 2 element_cells self.old result self.new (λ f. element f nesting.statements nesting.fors) }
+    {
+        if self.is_at(Kind::Semi) {
+            self.skip();
+            return Ok(());
+        }
+        self.statement(nesting)?;
+        self.take(Kind::Semi)
+    }
+
+    // A list ends at a token that starts no statement.
+    #[cycle(statements)]
+    pub(crate) fn list(&mut self, nesting: Nesting) -> Result<(), Refusal>
+        requires { Fits 3 self.old }
+        ensures stays { Stays self.old self.new }
+        ensures fine { Moves 3 self.old result self.new }
+        ensures means { ReadsWith 3 3 list_cells self.old result self.new (λ f. list f nesting.statements nesting.fors) }
+    {
+        while self.at_element() {
+            self.element(nesting)?;
+        }
+        self.write(Kind::Finish, 0, 0);
+        Ok(())
+    }
 }

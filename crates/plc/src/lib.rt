@@ -8,7 +8,7 @@ ghost use Rattle.rules.specs.Evaluate.{evaluate, table_after};
 ghost use Rattle.rules.specs.Run.{run_image, fill_image};
 ghost use Rattle.plc.specs.Numbers.{listed, told};
 
-use rules::{Compiled, Evaluated};
+use rules::{Evaluated, Refusal};
 
 // 0 is given back, and the lengths of image and code, the depth and the worst case are written through the references; or the number of the refusal is given
 // back, and its place is written. What does not apply is 0.
@@ -27,28 +27,22 @@ pub extern "C" fn moffatrell_compile(
     ensures writes { image.new ≡ buffer_after (compile (length memory.old) (length image.old) text.now) image.old }
     ensures clears { memory.new ≡ memory_after (compile (length memory.old) (length image.old) text.now) memory.old }
 {
-    let answer = compile::compile(text, memory, image);
-    match answer {
-        Compiled::Accepted {
-            image: length,
-            code: instructions,
-            depth: values,
-            worst: ticks,
-        } => {
+    match compile::compile(text, memory, image) {
+        Ok(compiled) => {
             *place = 0;
-            *bytes = length;
-            *code = instructions;
-            *depth = values;
-            *worst = ticks;
+            *bytes = compiled.image;
+            *code = compiled.code;
+            *depth = compiled.depth;
+            *worst = compiled.worst;
             0
         }
-        Compiled::Refused { number, place: at } => {
-            *place = at;
+        Err(refusal) => {
+            *place = refusal.place;
             *bytes = 0;
             *code = 0;
             *depth = 0;
             *worst = 0;
-            number
+            refusal.fault.number()
         }
     }
 }
@@ -69,20 +63,21 @@ pub extern "C" fn moffatrell_compile_and_run(
     ensures writes { image.new ≡ buffer_after (compile (length memory.old) (length image.old) text.now) image.old }
     ensures clears { memory.new ≡ memory_after (compile (length memory.old) (length image.old) text.now) memory.old }
 {
-    let answer = compile::compile_and_run(text, memory, image, table, budget);
-    match answer {
-        Evaluated::Told {
-            outcome,
-            ticks: taken,
-        } => {
+    match compile::compile_and_run(text, memory, image, table, budget) {
+        Ok(
+            Evaluated {
+                outcome,
+                ticks: taken,
+            },
+        ) => {
             *place = 0;
             *ticks = taken;
             outcome.number()
         }
-        Evaluated::Refused { number, place: at } => {
+        Err(Refusal { fault, place: at }) => {
             *place = at;
             *ticks = 0;
-            number
+            fault.number()
         }
     }
 }
@@ -100,18 +95,19 @@ pub extern "C" fn moffatrell_run(
     ensures { record { outcome = result; ticks = ticks.new; instructions = instructions.new; offset = offset.new; table = table.new } ≡ run_image image.now budget table.old }
 {
     let report = run::run(image, table, budget);
-    let outcome = report.outcome;
     *ticks = report.ticks;
     *instructions = report.instructions;
     *offset = report.offset;
-    outcome.number()
+    report.outcome.number()
 }
 
-// The answer's number is given back.
+// 0 is given back, or the number of what was wrong.
 #[unsafe(no_mangle)]
 pub extern "C" fn moffatrell_fill(image: &[u8], table: &mut [i32]) -> u32
     ensures { record { answer = result; table = table.new } ≡ fill_image image.now table.old }
 {
-    let answer = run::fill(image, table);
-    answer.number()
+    match run::fill(image, table) {
+        Ok(()) => 0,
+        Err(error) => error.number(),
+    }
 }

@@ -26,6 +26,7 @@ pub mod Evaluate
 -- How tokens, the tree and the core program lie in lent numbers; what the answers of the code stand for
 pub mod Cells
 pub mod CoreCells
+pub mod KindNumbers
 pub mod Answers
 -- Worked cases
 pub mod Opened

@@ -5,10 +5,9 @@ use mathlib.Core.List.{List}
 use Prim.Native.Nat.{ℕ, ◌+◌, ◌≤◌, ◌<◌}
 use native.Mathlib.Numerals.{add-one}
 use native.Mathlib.Omega.{arith}
-use lib.IntN.{ℤ, pos}
-use lib.ListN.{length, get_or, set, drop, drop_of_length-le}
-use lib.Seq.{drop-cons, get_or-set_same, get_or-set_other}
-use borrow.Author.Count.{below_more}
+use lib.IntN.{pos}
+use lib.ListN.{length, get_or, drop, drop_of_length-le}
+use lib.Seq.{drop-cons}
 use borrow.Author.Tests.{eq-eqb, ne_eqb}
 use Rattle.rules.specs.Numbers.{Ty, dint, holds}
 use Rattle.rules.specs.Meaning.{Table}
@@ -39,9 +38,3 @@ module _ (Γ : List Ty) (t : Table) where
   pub hold_end : (k : ℕ) → length t ≡ length Γ → length t ≤ k → all_hold (drop k Γ) (drop k t) ≡ true
   unfolding all_hold
   hold_end k q h = rw (drop_of_length-le Γ {i = k} (omega arith))
-
--- an entry more that is the other table's
-pub entry_more : (t u : Table) (k : ℕ) {z : ℤ} → k < length t → z ≡ get_or u k (pos 0) → ((j : ℕ) → j < k → get_or t j (pos 0) ≡ get_or u j (pos 0))
-    → (j : ℕ) → j < k + 1 → get_or (set t k z) j (pos 0) ≡ get_or u j (pos 0)
-entry_more t u k {z} h e all =
-    below_more (λ j. get_or (set t k z) j (pos 0) ≡ get_or u j (pos 0)) k (λ j l. get_or-set_other t k j z (pos 0) (λ q. omega arith) ∙ all j l) (get_or-set_same t k z (pos 0) h ∙ e)

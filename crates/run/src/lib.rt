@@ -7,30 +7,17 @@ ghost use Rattle.rules.specs.Limits.{code_limit, stack_limit};
 ghost use Rattle.rules.specs.Machine.{code_in};
 ghost use Rattle.rules.specs.Run.{number, valid, run_image, fill_image};
 ghost use Rattle.variables.specs.Slots.{types_in, values_in};
-ghost use Rattle.run.specs.Standing.{goes_on, end_of, last_count, carried_out, Refused};
+ghost use Rattle.run.specs.Standing.{end_of, last_count, carried_out, Refused};
 
 use machine::{Machine, Stop};
-use rules::{Filled, Outcome, Report};
+use rules::{FillError, Outcome, Report};
 
-fn goes_on(stop: Stop) -> bool
-    ensures { result ≡ goes_on stop }
-{
-    match stop {
-        Stop::Going => true,
-        Stop::Done => false,
-        Stop::Spent => false,
-        Stop::Range => false,
-        Stop::Divide => false,
-        Stop::Broken => false,
-    }
-}
-
-// The outcome that a stop is.
+// The outcome that a stop is. Both types are of crates below, so this is no impl of From.
+#[tactic(auto, unfolding(rules::specs::Run::number))]
 fn outcome_of(stop: Stop) -> Outcome
     ensures { outcome_number result ≡ number (end_of stop) }
 {
     match stop {
-        Stop::Going => Outcome::BadCode,
         Stop::Done => Outcome::Done,
         Stop::Spent => Outcome::Spent,
         Stop::Range => Outcome::Range,
@@ -43,14 +30,7 @@ fn outcome_of(stop: Stop) -> Outcome
 fn last_counts(stop: Stop) -> u64
     ensures { result ≡ last_count stop }
 {
-    match stop {
-        Stop::Going => 0,
-        Stop::Done => 1,
-        Stop::Spent => 0,
-        Stop::Range => 0,
-        Stop::Divide => 0,
-        Stop::Broken => 0,
-    }
+    u64::from(stop == Stop::Done)
 }
 
 // The code is carried out from its start, until an instruction ends the run.
@@ -61,19 +41,19 @@ fn carry_out(code: &[u8], vars: &[u8], table: &mut [i32], budget: u32) -> Report
     let mut m = Machine::new();
     let mut count: u64 = 0;
     loop {
-        let s = m.step(code, vars, table, budget);
-        let stop = s.stop;
-        let next = s.next;
-        if goes_on(stop) {
-            m = next;
-            count += 1;
-        } else {
-            return Report {
-                outcome: outcome_of(stop),
-                ticks: next.ticks,
-                instructions: count + last_counts(stop),
-                offset: next.at,
-            };
+        match m.step(code, vars, table, budget) {
+            Ok(next) => {
+                m = next;
+                count += 1;
+            }
+            Err(stop) => {
+                return Report {
+                    outcome: outcome_of(stop),
+                    ticks: m.ticks,
+                    instructions: count + last_counts(stop),
+                    offset: m.at,
+                };
+            }
         }
     }
 }
@@ -82,19 +62,18 @@ fn carry_out(code: &[u8], vars: &[u8], table: &mut [i32], budget: u32) -> Report
 fn is_valid(vars: &[u8], table: &[i32]) -> bool
     ensures { result ≡ valid (types_in vars.now) table.now }
 {
-    let mut k = 0;
     if table.len() != variables::count(vars) {
         return false;
     }
-    while k < table.len() {
-        if !variables::may_hold(vars, k, table[k]) {
+    for (k, v) in table.iter().enumerate() {
+        if !variables::may_hold(vars, k, *v) {
             return false;
         }
-        k += 1;
     }
     true
 }
 
+#[tactic(auto, unfolding(rules::specs::Run::refused_run))]
 fn refuse(outcome: Outcome) -> Report
     ensures { Refused outcome result }
 {
@@ -125,24 +104,22 @@ fn put_initials(vars: &[u8], table: &mut [i32])
     requires { length table.old ≡ length (values_in vars.now) }
     ensures { table.new ≡ values_in vars.now }
 {
-    let mut k = 0;
-    while k < table.len() {
+    for k in 0..table.len() {
         table[k] = variables::initial(vars, k);
-        k += 1;
     }
 }
 
 // A table is filled with an image's initial values. 23, or 24 for the length, changes no entry.
-pub fn fill(image: &[u8], table: &mut [i32]) -> Filled
+pub fn fill(image: &[u8], table: &mut [i32]) -> Result<(), FillError>
     ensures { filled result table.new ≡ fill_image image.now table.old }
 {
     if !image::is_image(image) {
-        return Filled::BadImage;
+        return Err(FillError::BadImage);
     }
     let vars = image::variables(image);
     if table.len() != variables::count(vars) {
-        return Filled::BadTable;
+        return Err(FillError::BadTable);
     }
     put_initials(vars, table);
-    Filled::Done
+    Ok(())
 }

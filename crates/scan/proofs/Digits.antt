@@ -1,123 +1,91 @@
--- An integer read digit by digit: its piece, from the value of the digits before a place and the bytes from there on. Assumes nothing.
-use mathlib.Core.Path.{◌≡◌, refl, sym, ◌∙◌}
-use mathlib.Core.Bool.{Bool, true, false, not}
-use mathlib.Core.List.{List, [], ◌∷◌}
-use mathlib.Core.Option.{Option, none, some}
-use Prim.Native.Nat.{ℕ, suc, ◌+◌, ◌-◌, ◌*◌, ◌≤◌, ◌<◌, min}
-use native.Mathlib.Nat.{mul-le-mul_left, add-zero, min-eq_left, min-le_right}
+-- An integer read digit by digit: what its value is, from the value of the digits before a place and the bytes from there on. Assumes nothing.
+use Rattle.std.proofs.Common.{◌≡◌, refl, sym, ◌∙◌, Bool, true, false, List, [], ◌∷◌, ℕ, ◌+◌, ◌*◌, ◌<◌, ◌≤◌, min, length, drop, get_or, drop-cons, add-one, ltb, Some, None, arith}
+use Rattle.std.proofs.Math.Option.{none, some}
+use Rattle.std.proofs.lemmas.Grind.{common_steps}
+use Rattle.std.proofs.lemmas.Bool.{ne_eqb, lt-ltb, le-ltb, lt-leb, le-leb}
+use Rattle.std.specs.Char.{digit_value}
+use native.Mathlib.Nat.{mul-le-mul_left}
 use native.Mathlib.Decide.{dec_le}
-use native.Mathlib.Omega.{arith}
-use lib.Dec.{ltb}
-use lib.ListN.{length, drop, get_or}
-use borrow.Author.Tests.{eq-eqb, ne_eqb, lt-ltb, le-ltb, le-leb, lt-leb, not-true, not-false}
 use Rattle.rules.specs.Base.{pick}
-use Rattle.rules.specs.Tokens.{Piece, bad, is_under, in_integer, digit_of, run, digits, integer_piece}
-use Rattle.rules.specs.Cells.{datum}
+use Rattle.rules.specs.Tokens.{is_digit, is_small, is_under, within, upper, digit_of, digits}
 use Rattle.theorems.specs.Refusals.{either}
-use Rattle.scan.specs.Pieces.{shown, in_run}
-use Rattle.scan.specs.declared.pieces.Piece.TheVariants.{Token, Bad}
-use Rattle.scan.proofs.Runs.{in_run_lt, run_on, run_off}
+use Rattle.scan.specs.Pieces.{limited}
 
-module _ (b : ℕ) (one : 1 ≤ b) (n i : ℕ) where
-  abbrev Refused : Option ℕ → Type 0
-  Refused o = integer_piece o n i ≡ bad 4
+-- the library's value of a digit, and the rules'
+digit_near : (x b : ℕ) → b ≤ 16 → digit_value x < b → digit_of x ≡ digit_value x
+unfolding digit_of is_digit upper is_small within
+digit_near x b h k = grind (arith, common_steps)
 
+no_digit : (x b : ℕ) → b ≤ 16 → b ≤ digit_value x → b ≤ digit_of x
+unfolding digit_of is_digit upper is_small within
+no_digit x b h k = grind (arith, common_steps)
+
+module _ (b : ℕ) (one : 1 ≤ b) where
   -- over the largest integer, more digits change nothing
-  too_large : (s : List ℕ) (v : ℕ) (after : Bool) → 2147483649 ≤ v → Refused (digits b v after s)
-  unfolding digits integer_piece
-  too_large [] v after h = either Refused after (rw (lt-leb v 2147483648 h)) refl
+  too_large : (s : List ℕ) (v : ℕ) (after : Bool) → 2147483649 ≤ v → limited (digits b v after s) ≡ None
+  unfolding digits limited
+  too_large [] v after h = either (λ o. limited o ≡ None) after (rw (lt-leb v 2147483648 h)) refl
   too_large (x ∷ s) v after h =
       let more : 2147483649 ≤ v * b + digit_of x = omega (arith, mul-le-mul_left v one) in
-      either Refused (is_under x)
-      (either Refused after (too_large s v false h) refl)
-      (either Refused (ltb (digit_of x) b) (too_large s (v * b + digit_of x) true more) refl)
+      either (λ o. limited o ≡ None) (is_under x)
+      (either (λ o. limited o ≡ None) after (too_large s v false h) refl)
+      (either (λ o. limited o ≡ None) (ltb (digit_of x) b) (too_large s (v * b + digit_of x) true more) refl)
 
-  -- so one over the largest stands for every value over it
-  cap : (s : List ℕ) (v : ℕ) (after : Bool) → integer_piece (digits b (min v 2147483649) after s) n i ≡ integer_piece (digits b v after s) n i
-  cap s v after =
-      elim (dec_le v 2147483649) [
-        | yes h ↦ rw (min-eq_left h)
-        | no h ↦ too_large s (min v 2147483649) after (omega arith) ∙ sym (too_large s v after (omega arith))
+  -- so a value may stay at the largest number
+  capped : (s : List ℕ) (v d : ℕ) (after : Bool)
+      → limited (digits b (min (min (v * b) 4294967295 + d) 4294967295) after s) ≡ limited (digits b (v * b + d) after s)
+  capped s v d after =
+      elim (dec_le (v * b + d) 4294967295) [
+        | yes h ↦ let e : min (min (v * b) 4294967295 + d) 4294967295 ≡ v * b + d = omega arith in rw e
+        | no h ↦ too_large s _ after (omega arith) ∙ sym (too_large s (v * b + d) after (omega arith))
       ]
 
--- the piece of the integer at `from`, where the digits before i have the value v
-abbrev pub piece_from : List ℕ → ℕ → ℕ → ℕ → ℕ → Bool → Piece
-piece_from t from b i v after = integer_piece (digits b v after (run in_integer (drop i t))) ((i - from) + length (run in_integer (drop i t))) from
+-- k bytes of t are read, and their value is v; after: the last one was a digit
+pub record Reading (t : List ℕ) (b k v : ℕ) (after : Bool) : Type 0 where
+  pub same : limited (digits b 0 false t) ≡ limited (digits b v after (drop k t))
 
--- the bytes from `start` to i are read, and their value is v; after: the last one was a digit
-pub record Reading (t : List ℕ) (from b start i v : ℕ) (after : Bool) : Type 0 where
-  pub past : from ≤ i
-  pub within : i ≤ length t
-  pub held : v ≤ 2147483649
-  pub same : piece_from t from b start 0 false ≡ piece_from t from b i v after
+pub begins : {t : List ℕ} {b : ℕ} → Reading t b 0 0 false
+begins = record { same = refl }
 
--- nothing is read yet
-pub reading : {t : List ℕ} {from b start : ℕ} → from ≤ start → start ≤ length t → Reading t from b start start 0 false
-reading h k = record { past = h; within = k; held = omega arith; same = refl }
+module _ {t : List ℕ} {b k v : ℕ} {after : Bool} (r : Reading t b k v after) where
+  module _ (h : k < length t) where
+    split : limited (digits b 0 false t) ≡ limited (digits b v after (get_or t k 0 ∷ drop (k + 1) t))
+    split = r.same ∙ rw (add-one, drop-cons t k 0 h)
 
-module _ {t : List ℕ} {from b start i v : ℕ} {after : Bool} (r : Reading t from b start i v after) where
-  module _ (on : in_run in_integer (drop i t) ≡ true) where
-    -- there is a byte at i
-    pub on_lt : i < length t
-    on_lt = in_run_lt in_integer t i on
-
-    -- the byte at i, and what goes on behind it
-    split : piece_from t from b start 0 false ≡
-        integer_piece (digits b v after (get_or t i 0 ∷ run in_integer (drop (i + 1) t))) ((i + 1 - from) + length (run in_integer (drop (i + 1) t))) from
-    split =
-        let l = length (run in_integer (drop (i + 1) t)) in
-        let e : (i - from) + suc l ≡ (i + 1 - from) + l = omega arith in
-        r.same ∙ rw (run_on in_integer t i on, e)
-
-    -- an underscore, behind a digit or not
-    module _ (u : get_or t i 0 ≡ 95) where
-      pub under_on : not after ≡ false → Reading t from b start (i + 1) v false
+    module _ (u : get_or t k 0 ≡ 95) where
+      pub under_on : after ≡ true → Reading t b (k + 1) v false
       unfolding digits is_under
-      under_on h =
-          record {
-            past = omega arith;
-            within = omega (arith, on_lt);
-            held = r.held;
-            same = split ∙ rw (eq-eqb _ _ u, not-false after h);
-          }
+      under_on e = record { same = split ∙ rw (u, e) }
 
-      pub under_bad : not after ≡ true → Bad 4 ≡ shown (piece_from t from b start 0 false)
-      unfolding digits is_under integer_piece shown
-      under_bad h = rw (split, eq-eqb _ _ u, not-true after h)
+      pub under_bad : after ≡ false → limited (digits b 0 false t) ≡ None
+      unfolding digits is_under limited
+      under_bad e = split ∙ rw (u, e)
 
-    -- a digit of the base, or any other byte
-    module _ (u : get_or t i 0 ≡ 95 → ⊥) {d : ℕ} (e : d ≡ digit_of (get_or t i 0)) where
-      pub digit_on : 1 ≤ b → d < b → {w : ℕ} → w ≡ min (v * b + d) 2147483649 → Reading t from b start (i + 1) w true
+    module _ (u : get_or t k 0 ≡ 95 → ⊥) (low : 1 ≤ b) (high : b ≤ 16) where
+      pub digit_on : (d w : ℕ) → digit_value (get_or t k 0) < b → d ≡ digit_value (get_or t k 0)
+          → w ≡ min (min (v * b) 4294967295 + d) 4294967295 → Reading t b (k + 1) w true
       unfolding digits is_under
-      digit_on one h c =
-          record {
-            past = omega arith;
-            within = omega (arith, on_lt);
-            held = omega (arith, min-le_right (v * b + d) 2147483649);
-            same = split ∙ rw (ne_eqb _ _ u, ← e, lt-ltb d b h, c, cap b one);
-          }
+      digit_on d w s e f =
+          let x = digit_near (get_or t k 0) b high s in
+          record { same = split ∙ rw (ne_eqb _ _ u, x, lt-ltb _ _ s, ← e) (rw f (sym (capped b low (drop (k + 1) t) v d true))) }
 
-      pub digit_bad : b ≤ d → Bad 4 ≡ shown (piece_from t from b start 0 false)
-      unfolding digits is_under integer_piece shown
-      digit_bad h = rw (split, ne_eqb _ _ u, ← e, le-ltb d b h)
+      pub digit_bad : b ≤ digit_value (get_or t k 0) → limited (digits b 0 false t) ≡ None
+      unfolding digits is_under limited
+      digit_bad s = split ∙ rw (ne_eqb _ _ u, le-ltb _ _ (no_digit (get_or t k 0) b high s))
 
-  module _ (off : in_run in_integer (drop i t) ≡ false) where
-    -- all bytes are read
-    over : piece_from t from b start 0 false ≡ integer_piece (pick after (λ _. some v) (λ _. none)) (i - from) from
+  module _ (h : length t ≤ k) where
+    over : limited (digits b 0 false t) ≡ limited (pick after (λ _. some v) (λ _. none))
     unfolding digits
-    over = r.same ∙ rw (run_off in_integer t i off, add-zero)
+    over = let e : drop k t ≡ [] = grind (arith, common_steps) in r.same ∙ rw e
 
-    -- and the last one was no digit
-    pub end_bad : not after ≡ true → Bad 4 ≡ shown (piece_from t from b start 0 false)
-    unfolding integer_piece shown
-    end_bad h = rw (over, not-true after h)
+    pub end_bad : after ≡ false → limited (digits b 0 false t) ≡ None
+    unfolding limited
+    end_bad e = over ∙ rw e
 
-    -- or the value is too large
-    pub end_large : not after ≡ false → 2147483648 < v → Bad 4 ≡ shown (piece_from t from b start 0 false)
-    unfolding integer_piece shown
-    end_large h k = rw (over, not-false after h, lt-leb v 2147483648 k)
+    pub end_large : 2147483648 < v → limited (digits b 0 false t) ≡ None
+    unfolding limited
+    end_large l = over ∙ either (λ o. limited o ≡ None) after (rw (lt-leb v 2147483648 l)) refl
 
-    -- or there is an integer
-    pub end_token : not after ≡ false → v ≤ 2147483648 → Token 2 v (i - from) ≡ shown (piece_from t from b start 0 false)
-    unfolding integer_piece shown datum
-    end_token h k = rw (over, not-false after h, le-leb v 2147483648 k)
+    pub ends : after ≡ true → v ≤ 2147483648 → limited (digits b 0 false t) ≡ Some v
+    unfolding limited
+    ends e l = over ∙ rw (e, le-leb v 2147483648 l)

@@ -4,22 +4,24 @@ use mathlib.Core.List.{List, [], ◌∷◌}
 use Prim.Native.Nat.{ℕ, zero, suc, ◌+◌, ◌-◌, ◌*◌, ◌≤◌, ◌<◌}
 use native.Mathlib.Nat.{zero-add}
 use native.Mathlib.Omega.{arith}
-use lib.ListN.{length, drop, get_or, replicate, length-drop, drop_of_length-le}
+use lib.ListN.{length, take, drop, get_or, replicate, length-drop, drop_of_length-le}
 use lib.Seq.{sets, length-sets, drop-cons, drop-drop}
 use borrow.Author.Tests.{le-leb, lt-leb, ne_eqb}
+use Rattle.std.proofs.lemmas.List.{take_all}
 use Rattle.rules.specs.Limits.{text_limit, token_numbers}
 use Rattle.rules.specs.Base.{Res, ok, refuse, ◌>>=◌, need}
 use Rattle.rules.specs.Kinds.{FINISH}
 use Rattle.rules.specs.Tokens.{Token, Piece, gap, tok, bad, plain, piece, put, follow, tokens_at, tokens}
 use Rattle.rules.specs.Compile.{memory_after}
 use Rattle.rules.specs.Cells.{cell, datum, token_cell, cells, Lent, refused_lent, tokens_for, tokens_left, scanned}
-use Rattle.rules.specs.Answers.{left}
-use Rattle.rules.specs.declared.Stage.TheVariants.{Left, Refused}
+use Rattle.rules.specs.Answers.{fault_number, left}
+use Rattle.rules.specs.declared.compiling.Fault.{Fault}
+use Rattle.rules.specs.declared.compiling.Fault.TheVariants.{LongText, ShortMemory}
+use Rattle.std.specs.Prelude.{Ok, Err}
 use Rattle.theorems.specs.Pieces.{Takes, gap_takes, tok_takes, piece-takes}
 use Rattle.theorems.specs.TokenPlaces.{Within, w_gap, w_tok, w_bad, piece_in}
-use Rattle.scan.specs.Pieces.{shown}
-use Rattle.scan.specs.declared.pieces.Piece as Code
-use Rattle.scan.specs.declared.pieces.Piece.TheVariants.{Gap, Token as Put, Bad}
+use Rattle.scan.specs.Pieces.{shown, a_gap, a_token, a_fault}
+use Rattle.scan.proofs.Shown.{same_shown}
 use Rattle.scan.proofs.Stores.{sets-cell}
 
 -- what is left if `count` tokens lie in memory and the rest of the text has these
@@ -68,7 +70,11 @@ start text lent = record {
 
 -- the piece at byte i
 abbrev pub here : List ℕ → ℕ → Piece
-here text i = piece (get_or text i 0) (drop i text) i
+here text i = piece (get_or (drop i text) 0 0) (drop i text) i
+
+-- the text from byte i on, as the code cuts it
+abbrev pub rest : List ℕ → ℕ → List ℕ
+rest text i = take (length text - i) (drop i text)
 
 -- the tokens from a byte on are those of its piece and of the rest
 tokens_on : (f i : ℕ) (text : List ℕ) → i < length text → 1 ≤ f
@@ -85,24 +91,24 @@ unfolding tokens_at
 tokens_end zero i text h = refl
 tokens_end (suc f) i text h = rw (drop_of_length-le text {i = i} h)
 
--- a piece of the rules, by what the code shows of it
-shown-gap : (p : Piece) {n : ℕ} → shown p ≡ Gap n → p ≡ gap n
+-- a piece, by what it shows
+gap_shown : (p : Piece) {n : ℕ} → a_gap n ≡ shown p → p ≡ gap n
 unfolding shown
-shown-gap (gap m) e = cc
-shown-gap (tok t m) e = cc
-shown-gap (bad m) e = cc
+gap_shown (gap m) e = cc
+gap_shown (tok t m) e = cc
+gap_shown (bad m) e = cc
 
-shown_token : (p : Piece) {k d n : ℕ} → shown p ≡ Put k d n → (t : Token) × (p ≡ tok t n) × (t.kind ≡ k) × (datum t ≡ d)
+token_shown : (p : Piece) {k d n : ℕ} → a_token k d n ≡ shown p → (t : Token) × (p ≡ tok t n) × (t.kind ≡ k) × (datum t ≡ d)
 unfolding shown
-shown_token (gap m) e = let z : ◌≡◌ {A = ℕ} 0 1 = cc in absurd (omega arith)
-shown_token (tok t m) e = (t, cc, cc, cc)
-shown_token (bad m) e = let z : ◌≡◌ {A = ℕ} 0 1 = cc in absurd (omega arith)
+token_shown (gap m) e = let z : ◌≡◌ {A = ℕ} 0 1 = cc in absurd (omega arith)
+token_shown (tok t m) e = (t, cc, cc, cc)
+token_shown (bad m) e = let z : ◌≡◌ {A = ℕ} 0 1 = cc in absurd (omega arith)
 
-shown_bad : (p : Piece) {n : ℕ} → shown p ≡ Bad n → p ≡ bad n
+fault_shown : (p : Piece) {n : ℕ} → a_fault n ≡ shown p → p ≡ bad n
 unfolding shown
-shown_bad (gap m) e = cc
-shown_bad (tok t m) e = cc
-shown_bad (bad m) e = cc
+fault_shown (gap m) e = cc
+fault_shown (tok t m) e = cc
+fault_shown (bad m) e = cc
 
 -- what is known of a piece, for each of its forms
 gap-known : {i m n : ℕ} → Takes (gap n) → Within i m (gap n) → (1 ≤ n) × (n ≤ m)
@@ -111,17 +117,18 @@ gap-known (gap_takes a) (w_gap b) = (a, b)
 tok-known : {i m n : ℕ} {t : Token} → Takes (tok t n) → Within i m (tok t n) → (1 ≤ n) × (n ≤ m) × (t.place ≡ i)
 tok-known (tok_takes a) (w_tok n e b) = (a, b, e)
 
-bad_known : {i m e : ℕ} → Within i m (bad e) → e ≤ 4
-bad_known (w_bad e b) = b.1
+bad_known : {i m e : ℕ} → Within i m (bad e) → (2 ≤ e) × (e ≤ 4)
+bad_known (w_bad e b) = b
 
 -- a refusal leaves all zero, but for 17
-refused-clear : (n p : ℕ) (lent : List ℕ) → (n ≡ 17 → ⊥) → left (Refused n p) (replicate (length lent) 0) ≡ refused_lent n p lent
+refused-clear : (f : Fault) (n p : ℕ) (lent : List ℕ) → fault_number f ≡ n → (n ≡ 17 → ⊥)
+    → left (Err (record { fault = f; place = p })) (replicate (length lent) 0) ≡ refused_lent n p lent
 unfolding refused_lent memory_after
-refused-clear n p lent h = rw (ne_eqb n 17 h)
+refused-clear f n p lent e h = rw (e, ne_eqb n 17 h)
 
 module _ {text lent memory : List ℕ} {i count : ℕ} (g : Going text lent memory i count) where
   -- the text has ended
-  pub ends : length text ≤ i → left (Left (count + 1)) (sets memory (3 * count) (cell FINISH i 0)) ≡ tokens_left (tokens text) lent
+  pub ends : length text ≤ i → left (Ok (count + 1)) (sets memory (3 * count) (cell FINISH i 0)) ≡ tokens_left (tokens text) lent
   unfolding ending cells token_cell cell datum plain
   ends h = rw (tokens_end g.fuel i text h) at g.whole
 
@@ -137,24 +144,28 @@ module _ {text lent memory : List ℕ} {i count : ℕ} (g : Going text lent memo
     on : ending count lent memory (follow (λ n. tokens_at (g.fuel - 1) (i + n) (drop (i + n) text)) (here text i) i) ≡ tokens_left (tokens text) lent
     on = rw (tokens_on g.fuel i text h (omega arith)) at g.whole
 
+    -- the piece of the rest shows what the piece at byte i shows
+    at_place : shown (piece (get_or (rest text i) 0 0) (rest text i) 0) ≡ shown (here text i)
+    at_place = let e : rest text i ≡ drop i text = take_all _ _ (omega (arith, length-drop i text)) in rw e (same_shown 0 i _ _)
+
     -- a gap is passed
-    pub passes : {r : Code.Piece} {n : ℕ} → r ≡ shown (here text i) → r ≡ Gap n → (1 ≤ n) × Going text lent memory (i + n) count
+    pub passes : {n : ℕ} → a_gap n ≡ shown (piece (get_or (rest text i) 0 0) (rest text i) 0) → (1 ≤ n) × Going text lent memory (i + n) count
     unfolding follow
-    passes s e =
-        let p = shown-gap (here text i) (sym s ∙ e) in
+    passes s =
+        let p = gap_shown (here text i) (s ∙ at_place) in
         let w = gap-known (rw p at takes) (rw p at fits) in
         (w.0, record { within = omega arith; few = omega arith; long = g.long; fuel = g.fuel - 1; enough = omega arith; whole = rw p at on })
 
     -- a token is put
-    pub puts : {r : Code.Piece} {k d n : ℕ} → r ≡ shown (here text i) → r ≡ Put k d n
-        → (1 ≤ n) × Going text lent (sets memory (3 * count) (cell k i d)) (i + n) (count + 1)
+    pub puts : {k d n : ℕ} {after : List ℕ} → a_token k d n ≡ shown (piece (get_or (rest text i) 0 0) (rest text i) 0)
+        → after ≡ sets memory (3 * count) (cell k i d) → (1 ≤ n) × Going text lent after (i + n) (count + 1)
     unfolding follow token_cell
-    puts {k} {d} s e =
-        let q = shown_token (here text i) (sym s ∙ e) in
+    puts {k} {d} s a =
+        let q = token_shown (here text i) (s ∙ at_place) in
         let w = tok-known (rw q.1 at takes) (rw q.1 at fits) in
         let m : token_cell q.0 ≡ cell k i d = rw (q.2, q.3, w.2) in (
           w.0,
-          record {
+          rw a record {
             within = omega arith;
             few = omega arith;
             long = length-sets memory (3 * count) (cell k i d) ∙ g.long;
@@ -165,24 +176,24 @@ module _ {text lent memory : List ℕ} {i count : ℕ} (g : Going text lent memo
         )
 
     -- a fault refuses the text
-    pub stops : {r : Code.Piece} {e : ℕ} → r ≡ shown (here text i) → r ≡ Bad e
-        → left (Refused e i) (replicate (length memory) 0) ≡ tokens_left (tokens text) lent
+    pub stops : (f : Fault) → a_fault (fault_number f) ≡ shown (piece (get_or (rest text i) 0 0) (rest text i) 0)
+        → left (Err (record { fault = f; place = i })) (replicate (length lent) 0) ≡ tokens_left (tokens text) lent
     unfolding follow ending
-    stops s q =
-        let p = shown_bad (here text i) (sym s ∙ q) in
+    stops f s =
+        let p = fault_shown (here text i) (s ∙ at_place) in
         let w = bad_known (rw p at fits) in
-        rw g.long (refused-clear _ i lent (λ z. omega arith) ∙ (rw p at on))
+        refused-clear f _ i lent refl (λ z. omega arith) ∙ (rw p at on)
 
 module _ (text lent : List ℕ) where
   -- too little is lent
-  pub scanned_little : length lent < token_numbers → left (Refused 17 0) lent ≡ scanned text lent
+  pub scanned_little : length lent < token_numbers → left (Err (record { fault = ShortMemory; place = 0 })) lent ≡ scanned text lent
   unfolding scanned tokens_for ◌>>=◌ need tokens_left refused_lent memory_after
   scanned_little h = rw (lt-leb token_numbers (length lent) h)
 
   -- the text is too long
-  pub scanned_long : token_numbers ≤ length lent → text_limit < length text → left (Refused 1 text_limit) (replicate (length lent) 0) ≡ scanned text lent
+  pub scanned_long : token_numbers ≤ length lent → text_limit < length text → left (Err (record { fault = LongText; place = text_limit })) (replicate (length lent) 0) ≡ scanned text lent
   unfolding scanned tokens_for ◌>>=◌ need tokens_left
-  scanned_long h q = rw (le-leb token_numbers (length lent) h, lt-leb (length text) text_limit q) (refused-clear 1 text_limit lent (λ z. omega arith))
+  scanned_long h q = rw (le-leb token_numbers (length lent) h, lt-leb (length text) text_limit q) (refused-clear LongText 1 text_limit lent refl (λ z. omega arith))
 
   -- else the tokens are left
   pub scanned-tokens : token_numbers ≤ length lent → length text ≤ text_limit → tokens_left (tokens text) lent ≡ scanned text lent

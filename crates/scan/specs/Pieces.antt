@@ -1,28 +1,50 @@
 -- What the answers of scanning's functions stand for.
-use Rattle.std.specs.Prelude.{Bool, false, List, [], ◌∷◌, ℕ}
-use Rattle.rules.specs.Tokens.{Piece, gap, tok, bad, symbol2, in_line, in_name, in_integer}
+use Rattle.std.specs.Prelude.{◌≡◌, List, find, ℕ, ◌<◌, leb, Option as Maybe, Some, None, Result, Ok, Err}
+use denote.Ref.{Bor}
+use Rattle.std.proofs.Math.Option.{Option, none, some}
+use Rattle.rules.specs.Limits.{integer_limit}
+use Rattle.std.specs.Option.{option_map}
+use Rattle.rules.specs.Base.{pick, same}
+use Rattle.rules.specs.Tokens.{Piece, gap, tok, bad, fold}
 use Rattle.rules.specs.Cells.{datum}
-use Rattle.scan.specs.declared.bytes.Run.{Run}
-use Rattle.scan.specs.declared.bytes.Run.TheVariants.{Line, Name, Integer}
+use Rattle.rules.specs.Answers.{fault_number}
+use Rattle.rules.specs.KindNumbers.{kind_number}
+use Rattle.rules.specs.declared.compiling.Fault.{Fault}
+use Rattle.rules.specs.declared.kinds.Kind.{Kind}
 use Rattle.scan.specs.declared.pieces.Piece as Code
-use Rattle.scan.specs.declared.pieces.Piece.TheVariants.{Gap, Token, Bad}
+use Rattle.scan.specs.declared.pieces.Piece.TheVariants.{Gap, Token}
 
--- a piece of the rules as the code gives it: without its place and its letters
-unfoldable pub shown : Piece → Code.Piece
-shown (gap n) = Gap n
-shown (tok t n) = Token t.kind (datum t) n
-shown (bad e) = Bad e
+-- a piece without its place and its letters
+pub data Shown : Type 0 where
+  -- how many bytes
+  a_gap : ℕ → Shown
+  -- the kind, the datum, and how many bytes
+  a_token : ℕ → ℕ → ℕ → Shown
+  -- the number of the list
+  a_fault : ℕ → Shown
 
--- a run of such bytes goes on
-unfoldable pub in_run : (ℕ → Bool) → List ℕ → Bool
-in_run p [] = false
-in_run p (x ∷ s) = p x
+-- what a piece of the rules shows
+unfoldable pub shown : Piece → Shown
+shown (gap n) = a_gap n
+shown (tok t n) = a_token t.kind (datum t) n
+shown (bad e) = a_fault e
 
-abbrev pub bytes_of : Run → ℕ → Bool
-bytes_of Line = in_line
-bytes_of Name = in_name
-bytes_of Integer = in_integer
+-- what a piece of the code shows
+abbrev pub answered : Result Code.Piece Fault → Shown
+answered (Ok (Gap n)) = a_gap n
+answered (Ok (Token k d n)) = a_token (kind_number k) d n
+answered (Err f) = a_fault (fault_number f)
 
--- the symbol of two bytes; where there is no second one, y is 0
-unfoldable pub pair_kind : ℕ → ℕ → ℕ
-pair_kind x y = symbol2 (x ∷ y ∷ [])
+-- the kind with this number, or none if the number is that of what is missing
+abbrev pub Finds : ℕ → Maybe Kind → ℕ → Type 0
+Finds missing (Some k) n = (kind_number k ≡ n) × (missing < n)
+Finds missing None n = n ≡ missing
+
+-- the kind of a word in a table of words and kinds; letter case means nothing
+unfoldable pub kind_in : List (Bor (List ℕ) × Kind) → List ℕ → Maybe Kind
+kind_in table word = option_map (λ row. row.1) (find (λ row. same (fold word) (fold row.0.now)) table)
+
+-- the value of an integer that is not too large
+unfoldable pub limited : Option ℕ → Maybe ℕ
+limited none = None
+limited (some v) = pick (leb v integer_limit) (λ _. Some v) (λ _. None)

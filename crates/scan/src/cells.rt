@@ -1,13 +1,25 @@
-// A cell of three numbers, put where there is room.
-ghost use Rattle.std.specs.Prelude.{◌≡◌, ◌+◌, ◌≤◌, length};
+// Tokens as they lie in lent memory: three numbers each.
+ghost use Rattle.std.specs.Prelude.{◌≡◌, ◌+◌, ◌^◌, ◌≤◌, ◌<◌, length};
 ghost use Rattle.std.proofs.lemmas.List.Edits.{sets};
 ghost use Rattle.rules.specs.Cells.{cell};
+ghost use Rattle.rules.specs.KindNumbers.{kind_number};
 
-pub(crate) fn put(memory: &mut [u32], at: usize, tag: u32, place: u32, datum: u32)
-    requires { at + 3 ≤ length memory.old }
-    ensures { memory.new ≡ sets memory.old at (cell tag place datum) }
-{
-    memory[at] = tag;
-    memory[at + 1] = place;
-    memory[at + 2] = datum;
+use rules::Kind;
+
+#[derive(Clone, Copy)]
+pub(crate) struct Cell {
+    pub kind: Kind,
+    pub place: usize,
+    pub datum: u32,
+}
+
+impl Cell {
+    pub(crate) fn put(self, memory: &mut [u32], at: usize)
+        requires room { at + 3 ≤ length memory.old }
+        requires small { self.place < 2 ^ 32 }
+        ensures { memory.new ≡ sets memory.old at (cell (kind_number self.kind) self.place self.datum) }
+    {
+        let numbers = [self.kind.number(), self.place as u32, self.datum];
+        memory[at..at + 3].copy_from_slice(&numbers);
+    }
 }

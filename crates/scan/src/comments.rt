@@ -1,45 +1,30 @@
-// Comments: to the line's end, and nested.
-ghost use Rattle.std.specs.Prelude.{◌≡◌, ◌+◌, ◌≤◌, length, drop};
-ghost use Rattle.rules.specs.Tokens.{in_line, run, comment, comment_piece};
-ghost use Rattle.scan.specs.Pieces.{shown};
-ghost use Rattle.scan.specs.declared.pieces.Piece.TheVariants.{Gap};
+// Comments in parentheses: they nest.
+ghost use Rattle.std.specs.Prelude.{◌≡◌, ◌≤◌, length, drop};
+ghost use Rattle.rules.specs.Tokens.{comment, comment_piece};
+ghost use Rattle.scan.specs.Pieces.{answered, shown};
 
-use super::bytes;
-use super::bytes::Run;
 use super::pieces::Piece;
+use rules::Fault;
 
-// The bytes of a line comment.
-pub(crate) fn line(text: &[u8], from: usize) -> Piece
-    requires { (length text.now ≤ 16384) × (from ≤ length text.now) }
-    ensures { result ≡ Gap (length (run in_line (drop from text.now))) }
+// A comment that opens at the start of the text. Nesting is a count.
+pub(crate) fn nested(text: &[u8]) -> Result<Piece, Fault>
+    requires { 2 ≤ length text.now }
+    ensures { answered result ≡ shown (comment_piece (comment 2 1 (drop 2 text.now))) }
 {
-    let mut i = from;
-    while bytes::goes_on(Run::Line, text, i) {
-        i += 1;
-    }
-    Piece::Gap(i - from)
-}
-
-// A comment that opens at `from`. Nesting is a count.
-pub(crate) fn nested(text: &[u8], from: usize) -> Piece
-    requires { (length text.now ≤ 16384) × (from + 2 ≤ length text.now) }
-    ensures { result ≡ shown (comment_piece (comment 2 1 (drop (from + 2) text.now))) }
-{
-    let mut i = from + 2;
+    let mut rest = &text[2..];
     let mut open: usize = 1;
-    while i + 1 < text.len() {
-        if bytes::stand_at(text, i, b'(', b'*') {
+    while open > 0 {
+        if rest.starts_with(b"(*") {
             open += 1;
-            i += 2;
-        } else if bytes::stand_at(text, i, b'*', b')') {
-            i += 2;
+            rest = &rest[2..];
+        } else if rest.starts_with(b"*)") {
             open -= 1;
-            if open == 0 {
-                return Piece::Gap(i - from);
-            }
+            rest = &rest[2..];
+        } else if rest.is_empty() {
+            return Err(Fault::NoToken);
         } else {
-            i += 1;
+            rest = &rest[1..];
         }
     }
-    Piece::Bad(2)
+    Ok(Piece::Gap(text.len() - rest.len()))
 }

@@ -1,77 +1,63 @@
 // Integers: decimal, or `2#`, `8#`, `16#`.
-ghost use Rattle.std.specs.Prelude.{◌≡◌, false, ◌+◌, ◌-◌, ◌≤◌, ◌<◌, min, length, drop};
-ghost use Rattle.rules.specs.Tokens.{in_integer, run, digits, integer, integer_piece};
-ghost use Rattle.scan.specs.Pieces.{shown};
+ghost use Rattle.std.specs.Prelude.{◌≡◌, false, ◌≤◌, length};
+ghost use Rattle.rules.specs.Tokens.{in_integer, run, digits as digits_from, integer, integer_piece};
+ghost use Rattle.scan.specs.Pieces.{answered, shown, limited};
 
 use super::bytes;
-use super::bytes::Run;
 use super::pieces::Piece;
-use rules::Kind;
+use rules::{Fault, Kind};
 
 // The largest integer that a token has.
-const LARGEST: u64 = 2147483648;
+const LARGEST: u32 = 2147483648;
 
-// What is over the largest integer counts as one over it.
-fn capped(x: u64) -> u64
-    ensures { result ≡ min x 2147483649 }
+// The value of the digits, if they are digits and it is not too large. A single underscore may stand between two.
+fn value_of(digits: &[u8], base: u32) -> Option<u32>
+    requires { (2 ≤ base) × (base ≤ 16) }
+    ensures { result ≡ limited (digits_from base 0 false digits.now) }
 {
-    if x < 2147483649 {
-        return x;
-    }
-    2147483649
-}
-
-// The digits from `start` on, of the token at `from`. They end at the first fault.
-fn digits(text: &[u8], from: usize, start: usize, base: u8) -> Piece
-    requires { (length text.now ≤ 16384) × (from ≤ start) × (start ≤ length text.now) × (2 ≤ base) × (base ≤ 16) }
-    ensures { result ≡ shown (integer_piece (digits base 0 false (run in_integer (drop start text.now)))
-        ((start - from) + length (run in_integer (drop start text.now))) from) }
-{
-    let mut i = start;
-    let mut value: u64 = 0;
-    let mut after = false;
-    while bytes::goes_on(Run::Integer, text, i) {
-        let x = text[i];
+    let mut value: u32 = 0;
+    let mut after_digit = false;
+    for &x in digits {
         if x == b'_' {
-            if !after {
-                return Piece::Bad(4);
+            if !after_digit {
+                return None;
             }
-            after = false;
+            after_digit = false;
         } else {
-            let digit = bytes::digit_of(x);
-            if base <= digit {
-                return Piece::Bad(4);
-            }
-            value = capped(value * base as u64 + digit as u64);
-            after = true;
+            let digit = (x as char).to_digit(base)?;
+            value = value.saturating_mul(base).saturating_add(digit);
+            after_digit = true;
         }
-        i += 1;
     }
-    if !after {
-        return Piece::Bad(4);
+    if after_digit && value <= LARGEST {
+        Some(value)
+    } else {
+        None
     }
-    if LARGEST < value {
-        return Piece::Bad(4);
-    }
-    Piece::Token(Kind::INT, value as u32, i - from)
 }
 
-// The integer at `from`.
-pub(crate) fn integer(text: &[u8], from: usize) -> Piece
-    requires { (length text.now ≤ 16384) × (from < length text.now) }
-    ensures { result ≡ shown (integer_piece (integer (run in_integer (drop from text.now)))
-        (length (run in_integer (drop from text.now))) from) }
+// The base that the token's first bytes name, and its digits.
+#[tactic(auto, unfolding(rules::specs::Tokens::integer, rules::specs::Tokens::starts))]
+fn split_base(token: &[u8]) -> (u32, &[u8])
+    ensures digits { digits_from result.0 0 false result.1.now ≡ integer token.now }
+    ensures low { 2 ≤ result.0 }
+    ensures high { result.0 ≤ 16 }
 {
-    if bytes::stand_at(text, from, b'2', b'#') {
-        return digits(text, from, from + 2, 2);
+    match token {
+        [b'2', b'#', digits @ ..] => (2, digits),
+        [b'8', b'#', digits @ ..] => (8, digits),
+        [b'1', b'6', b'#', digits @ ..] => (16, digits),
+        _ => (10, token),
     }
-    if bytes::stand_at(text, from, b'8', b'#') {
-        return digits(text, from, from + 2, 8);
-    }
-    if bytes::stand_at(text, from, b'1', b'6') {
-        if bytes::stand_at(text, from + 1, b'6', b'#') {
-            return digits(text, from, from + 3, 16);
-        }
-    }
-    digits(text, from, from, 10)
+}
+
+// The integer at the start of the text.
+#[tactic(auto, using(crate::proofs::Shown::an_integer, crate::proofs::Shown::no_integer))]
+pub(crate) fn integer(text: &[u8]) -> Result<Piece, Fault>
+    ensures { answered result ≡ shown (integer_piece (integer (run in_integer text.now)) (length (run in_integer text.now)) 0) }
+{
+    let token = bytes::run(text, bytes::in_integer);
+    let (base, digits) = split_base(token);
+    let value = value_of(digits, base).ok_or(Fault::BadInteger)?;
+    Ok(Piece::Token(Kind::Int, value, token.len()))
 }

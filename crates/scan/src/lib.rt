@@ -9,60 +9,74 @@ mod pieces;
 mod symbols;
 mod words;
 
-ghost use Rattle.std.specs.Prelude.{◌≡◌, length, replicate};
+ghost use Rattle.std.specs.Prelude.{◌≡◌, ◌≤◌, length, replicate, MatchResult};
+ghost use Rattle.rules.specs.Limits.{token_numbers};
 ghost use Rattle.rules.specs.Cells.{scanned};
 ghost use Rattle.rules.specs.Answers.{left, TokensFit};
-ghost use Rattle.rules.specs.declared.Stage.TheVariants.{Refused};
 
+use cells::Cell;
 use pieces::Piece;
-use rules::{Kind, Limits, Stage};
+use rules::{Fault, Kind, Limits, Refusal};
 
 // Fills all lent numbers with zero.
 pub fn clear(memory: &mut [u32])
     ensures { memory.new ≡ replicate (length memory.old) 0 }
 {
-    let mut i = 0;
-    while i < memory.len() {
-        memory[i] = 0;
-        i += 1;
-    }
-}
-
-// A refusal leaves all zero.
-fn refuse(memory: &mut [u32], number: u32, place: usize) -> Stage
-    ensures { (result ≡ Refused number place) × (memory.new ≡ replicate (length memory.old) 0) }
-{
-    clear(memory);
-    Stage::Refused { number, place }
+    memory.fill(0);
 }
 
 // The tokens of the text, three numbers each, from the first lent number on.
-pub fn scan(text: &[u8], memory: &mut [u32]) -> Stage
+#[tactic(auto, using(crate::proofs::Scanning::scanned_little))]
+pub fn scan(text: &[u8], memory: &mut [u32]) -> Result<usize, Refusal>
     ensures means { left result memory.new ≡ scanned text.now memory.old }
     ensures fits { TokensFit result }
 {
     if memory.len() < Limits::TOKEN_NUMBERS {
-        return Stage::Refused {
-            number: 17,
+        return Err(Refusal {
+            fault: Fault::ShortMemory,
             place: 0,
-        };
+        });
     }
+    let tokens = put_tokens(text, memory);
+    // A refusal leaves all zero.
+    if tokens.is_err() {
+        clear(memory);
+    }
+    tokens
+}
+
+// How many tokens the text has. Where it is refused, the tokens before stay.
+fn put_tokens(text: &[u8], memory: &mut [u32]) -> Result<usize, Refusal>
+    requires { token_numbers ≤ length memory.old }
+    ensures means { MatchResult result (λ _. left result memory.new ≡ scanned text.now memory.old)
+        (λ _. left result (replicate (length memory.old) 0) ≡ scanned text.now memory.old) }
+    ensures fits { TokensFit result }
+{
     if Limits::TEXT < text.len() {
-        return refuse(memory, 1, Limits::TEXT);
+        return Err(Refusal {
+            fault: Fault::LongText,
+            place: Limits::TEXT,
+        });
     }
-    let mut i = 0;
+    let mut place = 0;
     let mut count = 0;
-    while i < text.len() {
-        match pieces::piece_at(text, i) {
-            Piece::Gap(n) => i += n,
-            Piece::Token(kind, datum, n) => {
-                cells::put(memory, 3 * count, kind, i as u32, datum);
+    // A piece says how far it is to the next one, so no range counts the places.
+    while place < text.len() {
+        match pieces::first(&text[place..]) {
+            Ok(Piece::Gap(length)) => place += length,
+            Ok(Piece::Token(kind, datum, length)) => {
+                Cell { kind, place, datum }.put(memory, 3 * count);
                 count += 1;
-                i += n;
+                place += length;
             }
-            Piece::Bad(number) => return refuse(memory, number, i),
+            Err(fault) => return Err(Refusal { fault, place }),
         }
     }
-    cells::put(memory, 3 * count, Kind::FINISH, i as u32, 0);
-    Stage::Left(count + 1)
+    let end = Cell {
+        kind: Kind::Finish,
+        place,
+        datum: 0,
+    };
+    end.put(memory, 3 * count);
+    Ok(count + 1)
 }

@@ -1,42 +1,44 @@
-// What stands at a byte of the text: a gap, a token, or a fault.
-ghost use Rattle.std.specs.Prelude.{◌≡◌, ◌≤◌, ◌<◌, length, drop, get_or};
+// What stands at the start of a text: a gap or a token, or a fault.
+ghost use Rattle.std.specs.Prelude.{◌≡◌, ◌<◌, length, get_or};
 ghost use Rattle.rules.specs.Tokens.{piece};
-ghost use Rattle.scan.specs.Pieces.{shown};
+ghost use Rattle.scan.specs.Pieces.{answered, shown};
 
 use super::{bytes, comments, integers, symbols, words};
+use rules::{Fault, Kind};
 
-#[derive(Drop)]
+#[derive(Clone, Copy)]
 pub(crate) enum Piece {
     // Blanks and comments: how many bytes.
     Gap(usize),
     // The kind, a name's length or an integer's value, and how many bytes.
-    Token(u32, u32, usize),
-    // The number of the list.
-    Bad(u32),
+    Token(Kind, u32, usize),
 }
 
-pub(crate) fn piece_at(text: &[u8], i: usize) -> Piece
-    requires { (length text.now ≤ 16384) × (i < length text.now) }
-    ensures { result ≡ shown (piece (get_or text.now i 0) (drop i text.now) i) }
+// The piece at the start of the text.
+#[tactic(auto, using(crate::proofs::Starts::starts_two, crate::proofs::Starts::two_long), unfolding(rules::specs::Tokens::piece, rules::specs::Tokens::is_blank, rules::specs::Tokens::is_digit, rules::specs::Tokens::within, crate::specs::Pieces::shown))]
+pub(crate) fn first(text: &[u8]) -> Result<Piece, Fault>
+    requires { 0 < length text.now }
+    ensures { answered result ≡ shown (piece (get_or text.now 0 0) text.now 0) }
 {
-    let x = text[i];
-    if bytes::is_blank(x) {
-        return Piece::Gap(1);
+    let x = text[0];
+    // Space, tab, LF, FF, CR.
+    if x.is_ascii_whitespace() {
+        return Ok(Piece::Gap(1));
     }
-    if bytes::stand_at(text, i, b'/', b'/') {
-        return comments::line(text, i);
+    if text.starts_with(b"//") {
+        return Ok(Piece::Gap(bytes::run(text, bytes::in_line).len()));
     }
-    if bytes::stand_at(text, i, b'/', b'*') {
-        return Piece::Bad(2);
+    if text.starts_with(b"/*") {
+        return Err(Fault::NoToken);
     }
-    if bytes::stand_at(text, i, b'(', b'*') {
-        return comments::nested(text, i);
+    if text.starts_with(b"(*") {
+        return comments::nested(text);
     }
     if bytes::starts_name(x) {
-        return words::word(text, i);
+        return words::word(text);
     }
-    if bytes::is_digit(x) {
-        return integers::integer(text, i);
+    if x.is_ascii_digit() {
+        return integers::integer(text);
     }
-    symbols::symbol(x, bytes::byte_at(text, i + 1))
+    symbols::symbol(text)
 }

@@ -1,76 +1,57 @@
 // Symbols: two bytes before one.
-ghost use Rattle.std.specs.Prelude.{◌≡◌};
-ghost use Rattle.rules.specs.Tokens.{symbol1, symbol_piece};
-ghost use Rattle.scan.specs.Pieces.{shown, pair_kind};
+ghost use Rattle.std.specs.Prelude.{◌≡◌, ◌<◌, length, get_or};
+ghost use Rattle.rules.specs.Kinds.{FINISH};
+ghost use Rattle.rules.specs.Tokens.{symbol1, symbol2, symbol_piece};
+ghost use Rattle.scan.specs.Pieces.{answered, shown, Finds};
 
 use super::pieces::Piece;
-use rules::Kind;
+use rules::{Fault, Kind};
 
-// The kind of a symbol of two bytes; FINISH if they are none.
-fn of_two(x: u8, y: u8) -> u32
-    ensures { result ≡ pair_kind x y }
+#[tactic(auto, unfolding(rules::specs::Tokens::symbol2, rules::specs::Tokens::starts))]
+fn of_two(text: &[u8]) -> Option<Kind>
+    ensures { Finds FINISH result (symbol2 text.now) }
 {
-    match x {
-        b':' => {
-            if y == b'=' {
-                return Kind::ASSIGN;
-            }
-            Kind::FINISH
-        }
-        b'.' => {
-            if y == b'.' {
-                return Kind::DOTS;
-            }
-            Kind::FINISH
-        }
-        b'<' => match y {
-            b'=' => Kind::LESSEQ,
-            b'>' => Kind::UNEQ,
-            _ => Kind::FINISH,
-        },
-        b'>' => {
-            if y == b'=' {
-                return Kind::MOREEQ;
-            }
-            Kind::FINISH
-        }
-        _ => Kind::FINISH,
+    match text {
+        [b':', b'=', ..] => Some(Kind::Assign),
+        [b'.', b'.', ..] => Some(Kind::Dots),
+        [b'<', b'=', ..] => Some(Kind::LessEq),
+        [b'>', b'=', ..] => Some(Kind::MoreEq),
+        [b'<', b'>', ..] => Some(Kind::UnEq),
+        _ => None,
     }
 }
 
-// The kind of a symbol of one byte; FINISH if it is none.
-fn of_one(x: u8) -> u32
-    ensures { result ≡ symbol1 x }
+#[tactic(auto, unfolding(rules::specs::Tokens::symbol1))]
+fn of_one(x: u8) -> Option<Kind>
+    ensures { Finds FINISH result (symbol1 x) }
 {
     match x {
-        b':' => Kind::COLON,
-        b';' => Kind::SEMI,
-        b',' => Kind::COMMA,
-        b'(' => Kind::OPEN,
-        b')' => Kind::CLOSE,
-        b'+' => Kind::PLUS,
-        b'-' => Kind::MINUS,
-        b'*' => Kind::STAR,
-        b'/' => Kind::SLASH,
-        b'<' => Kind::LESS,
-        b'>' => Kind::MORE,
-        b'=' => Kind::EQUAL,
-        b'&' => Kind::AMP,
-        _ => Kind::FINISH,
+        b':' => Some(Kind::Colon),
+        b';' => Some(Kind::Semi),
+        b',' => Some(Kind::Comma),
+        b'(' => Some(Kind::Open),
+        b')' => Some(Kind::Close),
+        b'+' => Some(Kind::Plus),
+        b'-' => Some(Kind::Minus),
+        b'*' => Some(Kind::Star),
+        b'/' => Some(Kind::Slash),
+        b'<' => Some(Kind::Less),
+        b'>' => Some(Kind::More),
+        b'=' => Some(Kind::Equal),
+        b'&' => Some(Kind::Amp),
+        _ => None,
     }
 }
 
-// The symbol whose bytes are x and, if there is one more, y.
-pub(crate) fn symbol(x: u8, y: u8) -> Piece
-    ensures { result ≡ shown (symbol_piece (pair_kind x y) (symbol1 x) 0) }
+// The symbol at the start of the text.
+#[tactic(auto, using(crate::proofs::Shown::two_bytes, crate::proofs::Shown::one_byte, crate::proofs::Shown::no_symbol))]
+pub(crate) fn symbol(text: &[u8]) -> Result<Piece, Fault>
+    requires { 0 < length text.now }
+    ensures { answered result ≡ shown (symbol_piece (symbol2 text.now) (symbol1 (get_or text.now 0 0)) 0) }
 {
-    let two = of_two(x, y);
-    if two != Kind::FINISH {
-        return Piece::Token(two, 0, 2);
+    if let Some(kind) = of_two(text) {
+        return Ok(Piece::Token(kind, 0, 2));
     }
-    let one = of_one(x);
-    if one != Kind::FINISH {
-        return Piece::Token(one, 0, 1);
-    }
-    Piece::Bad(2)
+    let kind = of_one(text[0]).ok_or(Fault::NoToken)?;
+    Ok(Piece::Token(kind, 0, 1))
 }

@@ -1,78 +1,105 @@
 // Names and reserved words.
-ghost use Rattle.std.specs.Prelude.{◌≡◌, true, ◌+◌, ◌*◌, ◌≤◌, ◌<◌, length, drop, take, get_or};
+ghost use Rattle.std.specs.Prelude.{◌≡◌};
+ghost use Rattle.rules.specs.Kinds.{NAME};
 ghost use Rattle.rules.specs.Base.{same};
-ghost use Rattle.rules.specs.Tokens.{starts_name, in_name, run, fold, reserved, lookup, name_piece};
-ghost use Rattle.scan.specs.Pieces.{shown};
-ghost use Rattle.scan.specs.Words.{spelled};
+ghost use Rattle.rules.specs.Tokens.{in_name, run, fold, reserved, lookup, parts_well, is_name, name_piece};
+ghost use Rattle.scan.specs.Pieces.{answered, shown, Finds, kind_in};
 
 use super::bytes;
-use super::bytes::Run;
 use super::pieces::Piece;
-use rules::Kind;
+use rules::{Fault, Kind};
 
-// The reserved words in the order of their kinds, twelve bytes each: the length, the letters, spaces.
-const WORDS: [u8; 384] =
-    *b"\x03AND        \x04BOOL       \x02BY         \x04CASE       \x04DINT       \x02DO         \x04ELSE       \x05ELSIF      \x08END_CASE   \x07END_FOR    \x06END_IF     \x0bEND_PROGRAM\x0aEND_REPEAT \x07END_VAR    \x09END_WHILE  \x04EXIT       \x05FALSE      \x03FOR        \x02IF         \x03MOD        \x03NOT        \x02OF         \x02OR         \x07PROGRAM    \x06REPEAT     \x04THEN       \x02TO         \x04TRUE       \x05UNTIL      \x03VAR        \x05WHILE      \x03XOR        ";
+// The reserved words, in capitals, and their kinds.
+const RESERVED: [(&[u8], Kind); 32] = [
+    (b"AND", Kind::And),
+    (b"BOOL", Kind::Bool),
+    (b"BY", Kind::By),
+    (b"CASE", Kind::Case),
+    (b"DINT", Kind::Dint),
+    (b"DO", Kind::Do),
+    (b"ELSE", Kind::Else),
+    (b"ELSIF", Kind::Elsif),
+    (b"END_CASE", Kind::EndCase),
+    (b"END_FOR", Kind::EndFor),
+    (b"END_IF", Kind::EndIf),
+    (b"END_PROGRAM", Kind::EndProgram),
+    (b"END_REPEAT", Kind::EndRepeat),
+    (b"END_VAR", Kind::EndVar),
+    (b"END_WHILE", Kind::EndWhile),
+    (b"EXIT", Kind::Exit),
+    (b"FALSE", Kind::False),
+    (b"FOR", Kind::For),
+    (b"IF", Kind::If),
+    (b"MOD", Kind::Mod),
+    (b"NOT", Kind::Not),
+    (b"OF", Kind::Of),
+    (b"OR", Kind::Or),
+    (b"PROGRAM", Kind::Program),
+    (b"REPEAT", Kind::Repeat),
+    (b"THEN", Kind::Then),
+    (b"TO", Kind::To),
+    (b"TRUE", Kind::True),
+    (b"UNTIL", Kind::Until),
+    (b"VAR", Kind::Var),
+    (b"WHILE", Kind::While),
+    (b"XOR", Kind::Xor),
+];
 
-// How far from the first letter a letter may stand that is not a name's last.
-const FARTHEST: usize = 30;
+// A name has at most so many bytes.
+const LONGEST: usize = 32;
 
-// Whether the n bytes from `from` on are the reserved word of this row.
-fn is_word(text: &[u8], from: usize, n: usize, row: usize) -> bool
-    requires { (from + n ≤ length text.now) × (length text.now ≤ 16384) × (row < 32) }
-    ensures { result ≡ same (fold (take n (drop from text.now))) (spelled row) }
+// Whether no two underscores run, and none is last.
+fn parts_well(word: &[u8]) -> bool
+    ensures { result ≡ parts_well word.now }
 {
-    let words = WORDS;
-    if words[12 * row] as usize != n {
-        return false;
-    }
-    let mut k = 0;
-    while k < n {
-        if bytes::upper(text[from + k]) != words[12 * row + 1 + k] {
-            return false;
-        }
-        k += 1;
-    }
-    true
+    !word.ends_with(b"_") && !word.windows(2).any(|pair| pair == b"__".as_slice())
 }
 
-// The kind of the word: that of a reserved one, or NAME.
-fn kind_of(text: &[u8], from: usize, n: usize) -> u32
-    requires { (from + n ≤ length text.now) × (length text.now ≤ 16384) }
-    ensures { result ≡ lookup (fold (take n (drop from text.now))) reserved }
+// Whether the word is parted well and not too long.
+#[tactic(auto, unfolding(rules::specs::Tokens::is_name))]
+fn is_name(word: &[u8]) -> bool
+    ensures { result ≡ is_name word.now }
 {
-    let mut row = 0;
-    while row < 32 {
-        if is_word(text, from, n, row) {
-            return row as u32 + Kind::AND;
-        }
-        row += 1;
-    }
-    Kind::NAME
+    word.len() <= LONGEST && parts_well(word)
 }
 
-// The name or reserved word at `from`. It ends at the first fault.
-pub(crate) fn word(text: &[u8], from: usize) -> Piece
-    requires { (length text.now ≤ 16384) × (from < length text.now) × (starts_name (get_or text.now from 0) ≡ true) }
-    ensures { result ≡ shown (name_piece (run in_name (drop from text.now)) from) }
+// Letter case means nothing.
+fn same_word(a: &[u8], b: &[u8]) -> bool
+    ensures { result ≡ same (fold a.now) (fold b.now) }
 {
-    let mut last = from;
-    while bytes::goes_on(Run::Name, text, last + 1) {
-        if bytes::stand_at(text, last, b'_', b'_') {
-            return Piece::Bad(3);
-        }
-        if FARTHEST < last - from {
-            return Piece::Bad(3);
-        }
-        last += 1;
+    a.eq_ignore_ascii_case(b)
+}
+
+// The kind of the word in the table.
+#[tactic(auto, unfolding(crate::specs::Pieces::kind_in))]
+fn lookup(table: &[(&[u8], Kind)], word: &[u8]) -> Option<Kind>
+    ensures { result ≡ kind_in table.entry.now word.now }
+{
+    table
+        .iter()
+        .find(|(spelled, _)| same_word(word, spelled))
+        .map(|(_, kind)| *kind)
+}
+
+// The kind of a reserved word.
+fn reserved(word: &[u8]) -> Option<Kind>
+    ensures { Finds NAME result (lookup (fold word.now) reserved) }
+{
+    lookup(&RESERVED, word)
+}
+
+// The name or reserved word at the start of the text.
+#[tactic(auto, using(crate::proofs::Shown::a_name, crate::proofs::Shown::a_reserved, crate::proofs::Shown::no_name, crate::proofs::Shown::short))]
+pub(crate) fn word(text: &[u8]) -> Result<Piece, Fault>
+    ensures { answered result ≡ shown (name_piece (run in_name text.now) 0) }
+{
+    let word = bytes::run(text, bytes::in_name);
+    let length = word.len();
+    if !is_name(word) {
+        return Err(Fault::BadName);
     }
-    if text[last] == b'_' {
-        return Piece::Bad(3);
+    match reserved(word) {
+        Some(kind) => Ok(Piece::Token(kind, 0, length)),
+        None => Ok(Piece::Token(Kind::Name, length as u32, length)),
     }
-    let n = last + 1 - from;
-    let kind = kind_of(text, from, n);
-    if kind == Kind::NAME {
-        return Piece::Token(Kind::NAME, n as u32, n);
-    }
-    Piece::Token(kind, 0, n)
 }

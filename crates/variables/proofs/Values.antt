@@ -1,31 +1,18 @@
--- The variables of a payload of kind 1: how many there are, what stands at a slot, and what a type holds. Assumes nothing.
-use mathlib.Core.Path.{◌≡◌, refl, sym, ap, ◌∙◌}
-use mathlib.Core.Bool.{Bool, true, false, not}
-use mathlib.Core.List.{List, [], ◌∷◌}
-use mathlib.Core.Option.{Option, some}
-use Prim.Native.Nat.{ℕ, zero, suc, ◌+◌, ◌*◌, ◌/◌, ◌≤◌, ◌<◌}
-use native.Mathlib.Nat.{add-zero}
-use native.Mathlib.Omega.{arith}
-use lib.Dec.{eqb}
-use lib.IntN.{ℤ, pos, negsuc}
-use lib.ListN.{length, get_or, get_or-eq_default}
-use mir.Syntax.{w32}
+-- The variables of a payload of kind 1, five bytes each: how many there are, what stands at a slot, and what a type holds. Assumes nothing.
+use Rattle.std.proofs.Common.{◌≡◌, refl, sym, ◌∙◌, Bool, true, false, not, ◌&&◌, List, [], ◌∷◌, map, ℕ, suc, ◌/◌, ◌%◌, eqb, ℤ, pos, negsuc, length, get_or, w32, arith}
+use Rattle.std.proofs.Math.ListN as N
+use Rattle.std.specs.List.{list_all}
+use mathlib.Core.Option.{Option, none, some}
 use mir.Val.{SFits}
 use borrow.Author.Tests.{le-leb, ne_eqb}
 use Rattle.rules.specs.Base.{pick}
-use Rattle.rules.specs.Bytes.{of4}
+use Rattle.rules.specs.Bytes.{of_u, of4}
 use Rattle.rules.specs.Numbers.{Ty, bool, dint, is_dint, holds, between, low, high}
-use Rattle.rules.specs.Image.{type_in, variable_in}
-use Rattle.variables.specs.Slots.{is_some, type_of, types_in, values_in}
+use Rattle.rules.specs.Core.{Variable}
+use Rattle.rules.specs.Image.{type_in, variable_in, before, variables_in}
+use Rattle.variables.specs.Slots.{is_some, type_of, types_in, values_in, fives, kind_byte, value_in}
 use Rattle.variables.proofs.Options.{clash, some_if}
 
--- a DINT holds every number of 32 bits
-pub dint-holds : (z : ℤ) → SFits w32 z → holds dint z ≡ true
-unfolding holds between low high
-dint-holds (pos n) f = le-leb n 2147483647 (omega arith)
-dint-holds (negsuc n) f = rw (le-leb n 2147483647 (omega arith))
-
--- ---- five bytes each
 pub vars-length : (l : List ℕ) → (length (types_in l) ≡ length l / 5) × (length (values_in l) ≡ length l / 5)
 unfolding types_in values_in
 vars-length [] = (refl, refl)
@@ -35,51 +22,57 @@ vars-length (k ∷ a ∷ b ∷ []) = (refl, refl)
 vars-length (k ∷ a ∷ b ∷ c ∷ []) = (refl, refl)
 vars-length (k ∷ a ∷ b ∷ c ∷ d ∷ r) = let h = vars-length r in (omega arith, omega arith)
 
--- behind the first variable
-past : (a b c d e : ℕ) (r : List ℕ) (k j : ℕ) → get_or (a ∷ b ∷ c ∷ d ∷ e ∷ r) (suc k * 5 + j) 0 ≡ get_or r (k * 5 + j) 0
-past a b c d e r k j =
-    let f : suc k * 5 + j ≡ suc (suc (suc (suc (suc (k * 5 + j))))) = omega arith in
-    rw f
+-- ---- five bytes, and those behind them
+five : (k a b c d : ℕ) (r : List ℕ) → fives (k ∷ a ∷ b ∷ c ∷ d ∷ r) ≡ (k ∷ a ∷ b ∷ c ∷ d ∷ []) ∷ fives r
+five k a b c d r = let e : length (k ∷ a ∷ b ∷ c ∷ d ∷ r) / 5 ≡ suc (length r / 5) = omega arith in rw e
 
--- the type and the value of a slot, where there is one
-in_slot : (l : List ℕ) (k : ℕ) → k < length l / 5 →
-    (get_or (types_in l) k dint ≡ type_of (get_or l (k * 5) 0)) ×
-    (get_or (values_in l) k (pos 0) ≡ of4 (get_or l (k * 5 + 1) 0) (get_or l (k * 5 + 2) 0) (get_or l (k * 5 + 3) 0) (get_or l (k * 5 + 4) 0))
-unfolding types_in values_in
-in_slot [] k h = absurd (omega arith)
-in_slot (a ∷ []) k h = absurd (omega arith)
-in_slot (a ∷ b ∷ []) k h = absurd (omega arith)
-in_slot (a ∷ b ∷ c ∷ []) k h = absurd (omega arith)
-in_slot (a ∷ b ∷ c ∷ d ∷ []) k h = absurd (omega arith)
-in_slot (a ∷ b ∷ c ∷ d ∷ e ∷ r) zero h = (refl, refl)
-in_slot (a ∷ b ∷ c ∷ d ∷ e ∷ r) (suc k) h =
-    let n = past a b c d e r k in
-    let f = in_slot r k (omega arith) in
-    (f.0 ∙ sym (ap type_of (simp add-zero at (n 0))), f.1 ∙ rw (n 1, n 2, n 3, n 4))
+types_are : (l : List ℕ) → types_in l ≡ map (λ w. type_of (kind_byte w)) (fives l)
+unfolding types_in
+types_are [] = refl
+types_are (k ∷ []) = refl
+types_are (k ∷ a ∷ []) = refl
+types_are (k ∷ a ∷ b ∷ []) = refl
+types_are (k ∷ a ∷ b ∷ c ∷ []) = refl
+types_are (k ∷ a ∷ b ∷ c ∷ d ∷ r) = rw (five k a b c d r, types_are r)
 
-dint_is : (k : ℕ) → not (eqb k 1) ≡ is_dint (type_of k)
+values_are : (l : List ℕ) → values_in l ≡ map value_in (fives l)
+unfolding values_in
+values_are [] = refl
+values_are (k ∷ []) = refl
+values_are (k ∷ a ∷ []) = refl
+values_are (k ∷ a ∷ b ∷ []) = refl
+values_are (k ∷ a ∷ b ∷ c ∷ []) = refl
+values_are (k ∷ a ∷ b ∷ c ∷ d ∷ r) = rw (five k a b c d r, values_are r)
+
+-- ---- what stands at a slot; where there is none, what no bytes say
+pub type_at : (l : List ℕ) (k : ℕ) → get_or (types_in l) k dint ≡ type_of (kind_byte (get_or (fives l) k []))
+unfolding type_of
+type_at l k = rw (types_are l) (N.get_or-map (λ w. type_of (kind_byte w)) (fives l) k [])
+
+pub value_at : (l : List ℕ) (k : ℕ) → get_or (values_in l) k (pos 0) ≡ value_in (get_or (fives l) k [])
+unfolding of4 of_u
+value_at l k = rw (values_are l) (N.get_or-map value_in (fives l) k [])
+
+pub nothing_is : value_in [] ≡ pos 0
+unfolding of4 of_u
+nothing_is = refl
+
+-- the type's byte says whether it is a DINT
+pub dint_at : (l : List ℕ) (k : ℕ) → is_dint (get_or (types_in l) k dint) ≡ not (eqb (kind_byte (get_or (fives l) k [])) 1)
 unfolding type_of is_dint
-dint_is k = go (eqb k 1)
+dint_at l k = rw (type_at l k) (go (eqb (kind_byte (get_or (fives l) k [])) 1))
   where
-    go : (t : Bool) → not t ≡ is_dint (pick t (λ _. bool) (λ _. dint))
+    go : (t : Bool) → is_dint (pick t (λ _. bool) (λ _. dint)) ≡ not t
     go true = refl
     go false = refl
 
-pub dint_in : (l : List ℕ) (k : ℕ) → k < length l / 5 → not (eqb (get_or l (k * 5) 0) 1) ≡ is_dint (get_or (types_in l) k dint)
-dint_in l k h = dint_is (get_or l (k * 5) 0) ∙ ap is_dint (sym (in_slot l k h).0)
-
-pub dint_out : (l : List ℕ) (k : ℕ) → length l / 5 ≤ k → true ≡ is_dint (get_or (types_in l) k dint)
-unfolding is_dint
-dint_out l k h = ap is_dint (sym (get_or-eq_default (types_in l) dint (omega (arith, (vars-length l).0))))
-
-pub value_in : (l : List ℕ) (k : ℕ) → k < length l / 5 →
-    of4 (get_or l (k * 5 + 1) 0) (get_or l (k * 5 + 2) 0) (get_or l (k * 5 + 3) 0) (get_or l (k * 5 + 4) 0) ≡ get_or (values_in l) k (pos 0)
-value_in l k h = sym (in_slot l k h).1
-
-pub value_out : (l : List ℕ) (k : ℕ) → length l / 5 ≤ k → pos 0 ≡ get_or (values_in l) k (pos 0)
-value_out l k h = sym (get_or-eq_default (values_in l) (pos 0) (omega (arith, (vars-length l).1)))
-
 -- ---- what a slot's type holds
+-- a DINT holds every number of 32 bits
+pub dint-holds : (z : ℤ) → SFits w32 z → holds dint z ≡ true
+unfolding holds between low high
+dint-holds (pos n) f = le-leb n 2147483647 (omega arith)
+dint-holds (negsuc n) f = rw (le-leb n 2147483647 (omega arith))
+
 pub dint_may : (τ : Ty) (z : ℤ) → SFits w32 z → is_dint τ ≡ true → true ≡ holds τ z
 unfolding is_dint
 dint_may bool z f e = clash (cc)
@@ -98,3 +91,30 @@ a_variable {o} {τ} z e = rw e (some_if (holds τ z) (record { type = τ; init =
 pub no_variable : (k : ℕ) (z : ℤ) → (k ≡ 1 → ⊥) → (k ≡ 2 → ⊥) → false ≡ is_some (variable_in (type_in k) z)
 unfolding type_in variable_in is_some
 no_variable k z p q = rw (ne_eqb k 1 p, ne_eqb k 2 q, is_some)
+
+-- ---- all of them
+abbrev pub good : List ℕ → Bool
+good w = is_some (variable_in (type_in (kind_byte w)) (value_in w))
+
+before_some : (v : Option Variable) (vs : Option (List Variable)) → is_some (before v vs) ≡ (is_some v && is_some vs)
+unfolding before is_some
+before_some none vs = refl
+before_some (some v) none = refl
+before_some (some v) (some vs) = refl
+
+-- no bytes are left over, and each five are a variable
+pub all_good : (l : List ℕ) → is_some (variables_in l) ≡ (eqb (length l % 5) 0 && list_all good (fives l))
+unfolding variables_in is_some
+all_good [] = refl
+all_good (k ∷ []) = refl
+all_good (k ∷ a ∷ []) = refl
+all_good (k ∷ a ∷ b ∷ []) = refl
+all_good (k ∷ a ∷ b ∷ c ∷ []) = refl
+all_good (k ∷ a ∷ b ∷ c ∷ d ∷ r) =
+    let e : length (k ∷ a ∷ b ∷ c ∷ d ∷ r) % 5 ≡ length r % 5 = omega arith in
+    rw (five k a b c d r, e) (before_some _ _ ∙ rw (all_good r) (swap _ (eqb (length r % 5) 0) _))
+  where
+    swap : (x y z : Bool) → (x && (y && z)) ≡ (y && (x && z))
+    swap true y z = refl
+    swap false true z = refl
+    swap false false z = refl

@@ -1,5 +1,6 @@
 -- The variables of a payload of kind 1: their types and initial values, and whether something was read.
-use Rattle.std.specs.Prelude.{Bool, true, false, List, [], ◌∷◌, ℕ, eqb, ℤ}
+use Rattle.std.specs.Prelude.{Bool, true, false, List, [], ◌∷◌, ℕ, ◌/◌, eqb, ℤ, length, get_or}
+use Rattle.std.specs.Simd.{first_chunks}
 use Rattle.std.proofs.Math.Option.{Option, none, some}
 use Rattle.rules.specs.Base.{pick}
 use Rattle.rules.specs.Numbers.{Ty, bool, dint}
@@ -30,3 +31,14 @@ values_in (k ∷ a ∷ []) = []
 values_in (k ∷ a ∷ b ∷ []) = []
 values_in (k ∷ a ∷ b ∷ c ∷ []) = []
 values_in (k ∷ a ∷ b ∷ c ∷ d ∷ r) = of4 a b c d ∷ values_in r
+
+-- the bytes of a payload in groups of five, without those that are left over
+abbrev pub fives : List ℕ → List (List ℕ)
+fives l = first_chunks 5 (length l / 5) l
+
+-- what the five bytes of one variable say: its type's byte, and its initial value
+abbrev pub kind_byte : List ℕ → ℕ
+kind_byte w = get_or w 0 0
+
+abbrev pub value_in : List ℕ → ℤ
+value_in w = of4 (get_or w 1 0) (get_or w 2 0) (get_or w 3 0) (get_or w 4 0)

@@ -4,140 +4,67 @@
 mod answers;
 mod fields;
 mod requests;
-mod texts;
-mod trees;
 
-use answers::Buffer;
-use std::io::Read;
+use answers::Answer;
+use requests::Workspace;
+use std::io;
+use std::io::{BufRead, BufReader, BufWriter, Read, Write};
 
 // The longest line that is read: more than the longest image or text and the longest table take.
 const LONGEST: usize = 40000;
 
-// How many bytes are read at once.
+// How many bytes are read or written at once.
 const CHUNK: usize = 32768;
 
-type Line = [u8; LONGEST];
-
-// How far the program is.
-#[derive(Drop)]
-struct State {
-    // How many bytes of a line have come: one more than LONGEST if they were too many to keep.
-    held: usize,
-    // How many bytes of answers wait.
-    waiting: usize,
-    has_ended: bool,
+// Reads a line, and tells whether it has an end, which is taken off: the last one needs none. Of a line that is too long one byte more than the longest is kept.
+// A read that fails ends the input, too.
+fn read_line(input: &mut impl BufRead, line: &mut Vec<u8>) -> bool {
+    line.clear();
+    let most = LONGEST as u64 + 1;
+    if input.by_ref().take(most).read_until(b'\n', line).is_err() {
+        return false;
+    }
+    if line.pop_if(|byte| *byte == b'\n').is_some() {
+        return true;
+    }
+    LONGEST < line.len() && input.skip_until(b'\n').is_ok()
 }
 
-// A byte is kept if there is room.
-fn keep(line: &mut Line, held: usize, byte: u8) -> usize {
-    if held < LONGEST {
-        line[held] = byte;
-        return held + 1;
-    }
-    LONGEST + 1
-}
-
-// The line that was kept is answered.
-fn answer_held(
-    rt: &impl Print,
-    line: &[u8],
-    held: usize,
-    out: &mut Buffer,
-    waiting: usize,
-) -> usize {
-    if held <= line.len() {
-        return requests::answer(rt, &line[..held], out, waiting);
-    }
-    answers::put_error(rt, out, waiting)
-}
-
-fn serve_byte(rt: &impl Print, byte: u8, line: &mut Line, out: &mut Buffer, state: State) -> State {
-    let held = state.held;
-    let waiting = state.waiting;
-    if byte == b'\n' {
-        return State {
-            held: 0,
-            waiting: answer_held(rt, line, held, out, waiting),
-            has_ended: false,
-        };
-    }
-    State {
-        held: keep(line, held, byte),
-        waiting,
-        has_ended: false,
-    }
-}
-
-fn serve_bytes(
-    rt: &impl Print,
-    bytes: &[u8],
-    line: &mut Line,
-    out: &mut Buffer,
-    state: State,
-) -> State {
-    let mut now = state;
-    let mut i = 0;
-    while i < bytes.len() {
-        now = serve_byte(rt, bytes[i], line, out, now);
-        i += 1;
-    }
-    now
-}
-
-// Reads once. A read that fails ends the input, too.
-fn serve_some(
-    rt: &impl Print,
-    input: &mut impl Read,
-    line: &mut Line,
-    out: &mut Buffer,
-    state: State,
-) -> State {
-    let mut bytes = [0u8; CHUNK];
-    let n = match input.read(&mut bytes) {
-        Ok(count) => count,
-        Err(_) => 0,
+fn answer_line(out: &mut impl Write, workspace: &mut Workspace, line: &[u8]) -> io::Result<()> {
+    let answer = if line.len() <= LONGEST {
+        workspace.answer(line)
+    } else {
+        Answer::Malformed
     };
-    if n == 0 {
-        return State {
-            held: state.held,
-            waiting: state.waiting,
-            has_ended: true,
-        };
-    }
-    serve_bytes(rt, &bytes[..n], line, out, state)
+    writeln!(out, "{answer}")
 }
 
-// Nothing says that input ends, and a proved loop has to: so the turns are counted down, from a number that no run uses up.
-fn serve_all(rt: &impl Print, input: &mut impl Read, line: &mut Line, out: &mut Buffer) -> State {
-    let mut state = State {
-        held: 0,
-        waiting: 0,
-        has_ended: false,
-    };
-    let mut turns = u64::MAX;
-    while turns > 0 && !state.has_ended {
-        state = serve_some(rt, input, line, out, state);
-        turns -= 1;
+// Nothing says that input ends, and a proved loop has to: so lines are counted, up to a number that no run uses up.
+fn serve(
+    input: &mut impl BufRead,
+    out: &mut impl Write,
+    workspace: &mut Workspace,
+    line: &mut Vec<u8>,
+) -> io::Result<()> {
+    for _ in 0..u64::MAX {
+        let has_end = read_line(input, line);
+        if has_end || !line.is_empty() {
+            answer_line(out, workspace, line)?;
+        }
+        if !has_end {
+            break;
+        }
     }
-    state
+    out.flush()
 }
 
-// The last line needs no end.
-fn finish(rt: &impl Print, line: &mut Line, out: &mut Buffer, state: State) {
-    let held = state.held;
-    let waiting = state.waiting;
-    if held == 0 {
-        answers::flush(rt, out, waiting);
-        return;
-    }
-    let all = answer_held(rt, line, held, out, waiting);
-    answers::flush(rt, out, all);
-}
-
-fn main(rt: HostRuntime) {
-    let mut line = [0u8; LONGEST];
-    let mut out = [0u8; answers::ROOM];
-    let mut input = rt.reader();
-    let state = serve_all(&rt, &mut input, &mut line, &mut out);
-    finish(&rt, &mut line, &mut out, state);
+fn main(rt: HostRuntime) -> io::Result<()> {
+    let alloc = rt.alloc();
+    let mut input = BufReader::with_capacity(alloc, CHUNK, rt.reader())?;
+    let mut out = BufWriter::with_capacity(alloc, CHUNK, io::writer(&rt))?;
+    let mut workspace = Workspace::new(alloc)?;
+    let mut line = Vec::with_capacity(alloc, LONGEST + 1)?;
+    // A write that fails ends the program, and has nobody to be told of it.
+    let _ = serve(&mut input, &mut out, &mut workspace, &mut line);
+    Ok(())
 }

@@ -2,14 +2,16 @@
 use mathlib.Core.Path.{◌≡◌, refl, ap, ◌∙◌}
 use mathlib.Core.Bool.{Bool, true, false}
 use mathlib.Core.List.{List, [], ◌++◌, append_assoc, append-nil}
-use Prim.Native.Nat.{ℕ}
+use Prim.Native.Nat.{ℕ, ◌-◌, ◌≤◌}
 use native.Mathlib.Omega.{arith}
 use Rattle.rules.specs.Base.{Res, ok, refuse, ◌>>=◌}
 use Rattle.rules.specs.Cells.{cell}
-use Rattle.walk.specs.Steps.{tag_at, skipped, refused_at, checked, extended, written, Moves}
+use Rattle.walk.specs.Steps.{cell_at, tag_at, skipped, refused_at, checked, extended, written, left, Moves}
 use Rattle.walk.specs.Walking.{Scope, Ready, Walked, Did, walks, stays, When}
-use Rattle.walk.specs.declared.steps.Step.{Step}
-use Rattle.walk.specs.declared.steps.Step.TheVariants.{Ok, Bad}
+use Rattle.walk.specs.Places.{Step, Ok, Bad, at}
+use Rattle.walk.specs.Moving.{Skips, Writes}
+use Rattle.walk.specs.declared.steps.Walk.{Walk}
+use Rattle.cells.specs.declared.cell.Cell.{Cell}
 use Rattle.walk.proofs.Moves.{moved-skip, moved-write}
 use Rattle.walk.proofs.Follow.{Here, Ends, on, off, cell-ahead, skips, writes, still_skipped, still_written}
 
@@ -34,12 +36,6 @@ follows (ok a) e = e a
 follows (refuse n p) e = refl
 
 -- Facts that hold unless there was a refusal
-
--- behind a call
-pub still_done : {P : Type 0} {σ : Scope} {Given : Type 0} {A : Type 0} {Q : A → Type 0} {encode : A → List ℕ} {gain : ℕ} {cells m m₁ : List ℕ} {s s₁ : Step} {R : Res A}
-    → Did σ Given Q encode gain cells m m₁ s s₁ R → When s P → When s₁ P
-still_done (walks d) h at free e = h _ _ refl
-still_done stays h at free e = h at free e
 
 -- behind a test it held
 pub check_held : (b : Bool) (n p : ℕ) (s : Step) {s₁ : Step} → s₁ ≡ checked b n p s → When s₁ (b ≡ true)
@@ -95,6 +91,13 @@ refusal-stays stays n p e = e
 abbrev pub Heads : ℕ → List ℕ → List ℕ → Step → Step → Type 0
 Heads tag m m₁ s s₁ = (s₁ ≡ extended m (skipped m s)) × (m₁ ≡ written m (skipped m s) (cell tag 0 0))
 
+pub headed : (tag : ℕ) {old new : Walk} → Writes old (skipped old.memory.now (at old)) (cell tag 0 0) new → Heads tag old.memory.now new.memory.now (at old) (at new)
+headed tag w = (w.step, w.numbers)
+
+-- what is left where a cell was skipped
+pub skip_moves : {old new : Walk} → Skips old new → left new.memory.now (at new) ≤ left old.memory.now (at old) - 3
+skip_moves k = rw k.numbers (moved-skip _ _ k.step)
+
 -- that moves by a cell
 pub moved-head : (tag : ℕ) (m : List ℕ) (s : Step) {m₁ : List ℕ} {s₁ : Step} → Heads tag m m₁ s s₁ → Moves 3 m m₁ s s₁
 moved-head tag m s h =
@@ -115,6 +118,11 @@ refusal_headed m s e n p z = e ∙ ap (λ s. extended m (skipped m s)) z
 pub heads : {σ : Scope} {m₀ : List ℕ} {at₀ free₀ : ℕ} {B : Type 0} {Q : B → Type 0} {encode : B → List ℕ} {gain used : ℕ} {mₑ : List ℕ} {r : Step} {slack : ℕ} {v w m m₁ : List ℕ} {s s₁ : Step} {R : Res B} (t tag : ℕ)
     → Heads tag m m₁ s s₁ → Ends σ m₀ at₀ free₀ Q encode gain used mₑ r slack (v ++ cell tag 0 0) w m₁ s₁ R → Ends σ m₀ at₀ free₀ Q encode gain used mₑ r slack v (cell t 0 0 ++ w) m s R
 heads t tag h k = skips t 0 0 refl (writes tag 0 0 h (λ at free e. refl) k)
+
+-- the tag of the cell that the code sees
+pub tag_of : (m : List ℕ) (s : Step) {t : Cell} → t ≡ cell_at m s → t.tag ≡ tag_at m s
+unfolding tag_at
+tag_of m s sees = ap (λ c. c.tag) sees
 
 -- the tag ahead is the first number there
 pub tag-ahead : {σ : Scope} {m : List ℕ} {at free : ℕ} (t p d : ℕ) (w : List ℕ) → Ready σ m at free (cell t p d ++ w) → tag_at m (Ok at free) ≡ t

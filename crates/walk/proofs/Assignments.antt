@@ -2,13 +2,13 @@
 use mathlib.Core.Path.{◌≡◌, refl, sym, ap, ◌∙◌}
 use mathlib.Core.Bool.{Bool}
 use mathlib.Core.List.{List, [], append-nil}
-use Prim.Native.Nat.{ℕ}
+use Prim.Native.Nat.{ℕ, ◌-◌, ◌≤◌}
 use native.Mathlib.Nat.{le_refl}
 use native.Mathlib.Omega.{arith}
 use lib.Dec.{eqb}
 use lib.IntN.{pos}
 use lib.ListN.{length}
-use Rattle.rules.specs.Numbers.{Ty, bool, dint, same_ty}
+use Rattle.rules.specs.Numbers.{bool, dint, same_ty}
 use Rattle.rules.specs.Kinds.{ASSIGN, FOR, DINT, EXIT}
 use Rattle.rules.specs.Core.{Expr, var, assign, exit}
 use Rattle.rules.specs.Syntax.{Name, Exp, assign_s}
@@ -17,15 +17,16 @@ use Rattle.rules.specs.Cells.{cell, type_kind, name_cell, whole_cells, maybe_cel
 use Rattle.rules.specs.CoreCells.{stmt_cells}
 use Rattle.theorems.specs.TreePlaces.{NameIn, ExpIn, StmIn, i_assign}
 use Rattle.theorems.specs.Spelling.{Spelled}
-use Rattle.walk.specs.Steps.{cell_at, skipped, checked, extended, written, Moves}
-use Rattle.walk.specs.Walking.{When}
+use Rattle.walk.specs.Steps.{cell_at, skipped, checked, extended, written, left, Moves}
+use Rattle.walk.specs.Walking.{When, stays}
 use Rattle.walk.specs.Promises.{scope, Marks, TargetIs, AssignedMeans, ValuedMeans, AssignmentMeans, LeaveMeans, HeldMeans, ByMeans, ForHeadMeans, for_head, for_head_cells}
-use Rattle.walk.specs.declared.steps.Step.{Step}
-use Rattle.walk.specs.declared.steps.Cell.{Cell}
-use Rattle.walk.specs.declared.statements.Target.{Target}
+use Rattle.walk.specs.Places.{Step, Bad, Target}
+use Rattle.cells.specs.declared.cell.Cell.{Cell}
+use Rattle.walk.proofs.ConstantValues.{dint-kind}
 use Rattle.walk.proofs.Moves.{moved-skip, moved-check, moved-write}
-use Rattle.walk.proofs.Follow.{begin, gives, bind, checks, looks, skips, writes, still_checked, still_skipped, still_written}
-use Rattle.walk.proofs.Along.{still_done, laid, in_two, in_four}
+use Rattle.walk.proofs.Follow.{begin, gives, bind, checks, looks, skips, writes, still_checked, still_skipped, still_written, still_done}
+use Rattle.walk.proofs.Refusals.{moved}
+use Rattle.walk.proofs.Along.{laid, in_two, in_four}
 
 -- where only that there is such a thing matters
 pub any_slot : Slot
@@ -33,12 +34,6 @@ any_slot = record { slot = 0; type = bool }
 
 pub any_expr : Expr
 any_expr = var 0
-
--- the test of the kinds is that of the types
-same_kind : (t : Ty) {kind : ℕ} → kind ≡ type_kind t → eqb kind DINT ≡ same_ty t dint
-unfolding type_kind same_ty
-same_kind bool e = rw e
-same_kind dint e = rw e
 
 -- what is given of an assignment is given of its name, and of its value
 assigned-name : {N : ℕ} {P : Name → Type 0} {v : Name} {e : Exp} → StmIn N P (assign_s v e) → NameIn N P v
@@ -103,7 +98,7 @@ module _ (text : List ℕ) (count : ℕ) (taken : List Bool) (m₀ : List ℕ) (
       let given₁ = still_checked (eqb name.kind DINT) 8 name.place typed given₀ in
       let known₂ = still_written m₀ wrote.0 known₁ in
       let given₂ = still_written m₀ wrote.0 given₁ in
-      checks (eqb name.kind DINT) (same_ty x.type dint) 8 name.place v.place typed (λ at free z. (same_kind x.type (is at free z).kind, (is at free z).place))
+      checks (eqb name.kind DINT) (same_ty x.type dint) 8 name.place v.place typed (λ at free z. (ap (λ k. eqb k DINT) (is at free z).kind ∙ dint-kind x.type, (is at free z).place))
       (writes {slack = 0} FOR 0 x.slot wrote (λ at free z. ap (cell FOR 0) (known₁ at free z).slot)
       (bind any_expr (initial.1 vs dint a) (λ at free z. ((given₂ at free z).1.0, refl)) (λ y any.
       let known₃ = still_done (initial.1 vs dint a) known₂ in
@@ -138,3 +133,14 @@ module _ (inside : Bool) (m₀ : List ℕ) (s : Step) {m₁ : List ℕ} {s₁ s�
 
   pub leave-does : Moves 3 m₀ m₁ s r × LeaveMeans inside m₀ m₁ s r
   leave-does = (leave-moves, leave-means)
+
+-- Behind a refusal nothing is done
+
+pub valued_none : {text : List ℕ} {count wanted place : ℕ} {m : List ℕ} {n p : ℕ} → (left m (Bad n p) ≤ left m (Bad n p) - 3) × ValuedMeans text count wanted place m m (Bad n p) (Bad n p)
+valued_none = (moved _ _ _ _ _, λ vs t p e. stays)
+
+pub held_none : {text : List ℕ} {count wanted : ℕ} (more : ℕ) {m : List ℕ} {n p : ℕ} → (left m (Bad n p) ≤ left m (Bad n p) - 3) × HeldMeans text count wanted more m m (Bad n p) (Bad n p)
+held_none more = (moved _ _ _ _ _, λ vs t e. stays)
+
+pub by_none : {m : List ℕ} {n p : ℕ} → (left m (Bad n p) ≤ left m (Bad n p) - 3) × ByMeans m m (Bad n p) (Bad n p)
+by_none = (moved _ _ _ _ _, λ σ c. stays)

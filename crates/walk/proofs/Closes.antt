@@ -14,8 +14,7 @@ use Rattle.walk.specs.Steps.{tag_at, skipped, extended, written}
 use Rattle.walk.specs.Walking.{Scope, Ready, Did, Nothing, Any}
 use Rattle.walk.specs.Promises.{scope}
 use Rattle.walk.specs.Declaring.{var_cell, var_cells, Amid, midway, stopped, Behind, passed, refused}
-use Rattle.walk.specs.declared.steps.Step.{Step}
-use Rattle.walk.specs.declared.steps.Step.TheVariants.{Ok}
+use Rattle.walk.specs.Places.{Step, Ok, Bad}
 use Rattle.walk.proofs.Follow.{begin, gives, skips, writes}
 use Rattle.walk.proofs.Onward.{tag-ahead, After, came, after}
 use Rattle.walk.proofs.Declares.{first_cells}
@@ -54,3 +53,7 @@ closes {text} {tail} {m} {m'} {R} {count} z w (midway {at} {free} vs [] e many e
   where
     go : {r : Step} → After (scope text count vs) {A = Unit {0}} Any (λ _. end_cell) m m' tail free r (ok tt) → Behind text tail R m' count r
     go (came _ _ y more) = passed vs e y (more ∙ ap (λ l. l ++ end_cell) part ∙ closed-cells vs)
+
+-- a declaration was refused
+pub closes_none : {text tail m m' : List ℕ} {R : Res (List Var)} {i j n p : ℕ} → Amid text tail R m i (Bad n p) → Behind text tail R m' j (Bad n p)
+closes_none (stopped e) = refused e

@@ -11,7 +11,7 @@ use Rattle.rules.specs.Cells.{cell, truth_kind, sign_kind, con_cells, label_cell
 use Rattle.walk.specs.Steps.{cell_at, tag_at}
 use Rattle.walk.specs.Constants.{is_constant}
 use Rattle.walk.specs.Walking.{Scope, When}
-use Rattle.walk.specs.declared.steps.Step.{Step}
+use Rattle.walk.specs.Places.{Step}
 use Rattle.walk.proofs.Follow.{Ends, looks}
 use Rattle.walk.proofs.Knowing.{whenever}
 

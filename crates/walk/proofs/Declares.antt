@@ -3,7 +3,7 @@ use mathlib.Core.Path.{◌≡◌, refl, sym, ap, ◌∙◌}
 use mathlib.Core.Bool.{Bool, true, false}
 use mathlib.Core.List.{List, [], ◌∷◌, ◌++◌, append_assoc, append-nil}
 use mathlib.Core.Option.{none}
-use Prim.Native.Nat.{ℕ, ◌+◌, ◌*◌, ◌≤◌, ◌<◌}
+use Prim.Native.Nat.{ℕ, ◌+◌, ◌*◌, ◌<◌}
 use native.Mathlib.Omega.{arith}
 use lib.Dec.{eqb, ltb}
 use lib.IntN.{ℤ, pos}
@@ -16,7 +16,8 @@ use Rattle.rules.specs.Kinds.{FINISH}
 use Rattle.rules.specs.Syntax.{Decl}
 use Rattle.rules.specs.Walk.{Var, find, initial, declare_all}
 use Rattle.rules.specs.Cells.{end_cell, name_cell, maybe_cells, type_kind, decl_cells, decls_cells}
-use Rattle.names.specs.Rows.{spelling, rows_from, slot_or}
+use Rattle.names.specs.Rows.{spelling, type_of, rows_from}
+use Rattle.walk.proofs.Slots.{slot_or}
 use Rattle.theorems.specs.TokenPlaces.{e_cons}
 use Rattle.theorems.specs.TreePlaces.{DeclIn}
 use Rattle.theorems.specs.Spelling.{Spelled}
@@ -24,13 +25,12 @@ use Rattle.walk.specs.Steps.{kept, cell_at, tag_at, skipped, refused_at, checked
 use Rattle.walk.specs.Walking.{Ready, Any}
 use Rattle.walk.specs.Promises.{scope}
 use Rattle.walk.specs.Declaring.{declared, var_cell, var_cells, InitialMeans, Stand, Amid, midway, stopped, DeclarationMeans}
-use Rattle.walk.specs.declared.steps.Step.{Step}
-use Rattle.walk.specs.declared.steps.Step.TheVariants.{Ok, Bad}
-use Rattle.walk.specs.declared.steps.Cell.{Cell}
+use Rattle.walk.specs.Places.{Step, Ok, Bad}
+use Rattle.cells.specs.declared.cell.Cell.{Cell}
 use Rattle.walk.proofs.Moves.{left_same, kept_sets, moved-skip, moved-check}
 use Rattle.walk.proofs.Follow.{cell-ahead}
 use Rattle.walk.proofs.Onward.{tag-ahead, skip-ahead, After, came, lost, after, refusal-stays}
-use Rattle.walk.proofs.Enters.{is_new, Tested, passed, failed, tested, entered-part, entered-ready}
+use Rattle.walk.proofs.Enters.{type-kind, is_new, Tested, passed, failed, tested, entered-part, entered-ready}
 
 -- the cells of one variable more
 var_cells_more : (vs ws : List Var) → var_cells (vs ++ ws) ≡ var_cells vs ++ var_cells ws
@@ -122,19 +122,26 @@ goes_on vs d ds (ok z) e many each part (came _ _ y more) =
     midway (vs ++ (declared d z ∷ [])) ds e (rw (length-append vs (declared d z ∷ [])) (omega arith)) each y
     (more ∙ ap (λ l. l ++ var_cell (declared d z)) part ∙ rw (var_cells_more vs (declared d z ∷ []), append-nil (var_cell (declared d z))))
 
+-- the type of a name as the code reads it from its cell
+abbrev pub typed_as : Cell → Cell
+typed_as name = record { tag = type_kind (type_of name.tag); place = name.place; datum = 0 }
+
 -- the initial value of a new name that was entered
-valued : {text m m₁ m' : List ℕ} {count : ℕ} {name : Cell} {few r : Step} (tail : List ℕ) (R : Res (List Var)) → m₁ ≡ sets m (3 * count) (name.tag ∷ name.place ∷ name.datum ∷ [])
-    → InitialMeans name m₁ m' few r → Looked text tail R m count name few → Amid text tail R m' (count + 1) r
+valued : {text m m₁ m' : List ℕ} {count : ℕ} {name : Cell} {few r : Step} (tail : List ℕ) (R : Res (List Var)) → m₁ ≡ sets m (3 * count) (type_kind (type_of name.tag) ∷ name.place ∷ name.datum ∷ [])
+    → InitialMeans (typed_as name) m₁ m' few r → Looked text tail R m count name few → Amid text tail R m' (count + 1) r
 valued tail R stored means (over e) = rw (refusal-stays (means (scope [] 0 []) any)) (stopped e)
 valued {text} {m} {m₁} {m'} {count} {name} tail R stored means (fresh {at} {free} vs d ds many few e each h y part is) =
     goes_on vs d ds (initial d d.init) e many each before
-    (after (maybe_cells d.init) (decls_cells ds ++ tail) (means _ d) (ap (λ c. c.tag) is, ap (λ c. c.place) is) ready)
+    (after (maybe_cells d.init) (decls_cells ds ++ tail) (means _ d) (kind_is, ap (λ c. c.place) is) ready)
   where
     z : ℤ
     z = value (initial d d.init)
 
+    kind_is : type_kind (type_of name.tag) ≡ type_kind d.type
+    kind_is = ap (λ c. type_kind (type_of c.tag)) is ∙ ap type_kind (type-kind d.type)
+
     rows : m₁ ≡ sets m (3 * count) (type_kind d.type ∷ d.name.place ∷ length d.name.letters ∷ [])
-    rows = stored ∙ ap (λ c. sets m (3 * count) (c.tag ∷ c.place ∷ c.datum ∷ [])) is
+    rows = stored ∙ ap (λ c. sets m (3 * count) (type_kind (type_of c.tag) ∷ c.place ∷ c.datum ∷ [])) is ∙ ap (λ t. sets m (3 * count) (type_kind t ∷ d.name.place ∷ length d.name.letters ∷ [])) (type-kind d.type)
 
     ready : Ready (scope text (count + 1) (vs ++ (declared d z ∷ []))) m₁ (at + 3) free (maybe_cells d.init ++ (decls_cells ds ++ tail))
     ready = rw rows (entered-ready d z (maybe_cells d.init ++ (decls_cells ds ++ tail)) h few y)
@@ -142,23 +149,21 @@ valued {text} {m} {m₁} {m'} {count} {name} tail R stored means (fresh {at} {fr
     before : slice token_numbers free (kept m₁) ≡ var_cells vs
     before = ap (λ l. slice token_numbers free (kept l)) rows ∙ entered-part d z (maybe_cells d.init ++ (decls_cells ds ++ tail)) h few y ∙ part
 
--- there is no room for another
-full : {text m tail : List ℕ} {R : Res (List Var)} {count : ℕ} {name : Cell} {few : Step} → variable_limit ≤ count → Looked text tail R m count name few → Amid text tail R m count few
-full h (over e) = stopped e
-full h (fresh vs d ds many few e each k y part is) = absurd (omega arith)
+-- a test failed
+over_none : {text m tail : List ℕ} {R : Res (List Var)} {count k n p : ℕ} {name : Cell} → Looked text tail R m count name (Bad n p) → Amid text tail R m k (Bad n p)
+over_none (over e) = stopped e
+
+pub declaration_refused : {text m : List ℕ} {count k n p slot : ℕ} {s : Step} {name : Cell} {behind new : Step} → Tries text m count s slot name behind new (Bad n p) → DeclarationMeans text count m m s (record { step = Bad n p; count = k })
+declaration_refused c tail R more a = over_none (looked tail R c more a)
 
 module _ {text m : List ℕ} {count slot : ℕ} {s : Step} {name : Cell} {behind new few : Step} (c : Tries text m count s slot name behind new few) where
   -- the tests go past the name
   tests-move : Moves 3 m m s few
   tests-move = omega (arith, moved-skip m s c.skip, moved-check m _ _ _ behind c.other, moved-check m _ _ _ new c.room)
 
-  -- 64 names are there
-  pub declaration_full : variable_limit ≤ count → Moves 3 m m s few × DeclarationMeans text count m m s (record { step = few; count = count })
-  declaration_full h = (tests-move, λ tail R more a. full h (looked tail R c more a))
-
   -- it is entered, and its variable is written
-  pub declaration_more : {m₁ m' : List ℕ} {r : Step} → m₁ ≡ sets m (3 * count) (name.tag ∷ name.place ∷ name.datum ∷ []) → Moves 3 m₁ m' few r × InitialMeans name m₁ m' few r
+  pub declaration_more : {m₁ m' : List ℕ} {r : Step} → m₁ ≡ sets m (3 * count) (type_kind (type_of name.tag) ∷ name.place ∷ name.datum ∷ []) → Moves 3 m₁ m' few r × InitialMeans (typed_as name) m₁ m' few r
       → Moves 3 m m' s r × DeclarationMeans text count m m' s (record { step = r; count = count + 1 })
   declaration_more {m₁} stored d =
-      let same : left m₁ few ≡ left m few = left_same few m m₁ (ap (λ l. length (kept l)) stored ∙ kept_sets m (3 * count) (name.tag ∷ name.place ∷ name.datum ∷ [])) in
+      let same : left m₁ few ≡ left m few = left_same few m m₁ (ap (λ l. length (kept l)) stored ∙ kept_sets m (3 * count) (type_kind (type_of name.tag) ∷ name.place ∷ name.datum ∷ [])) in
       (omega (arith, tests-move, d.0), λ tail R more a. valued tail R stored d.1 (looked tail R c more a))

@@ -17,20 +17,20 @@ use Rattle.rules.specs.Numbers.{Ty, bool, dint}
 use Rattle.rules.specs.Syntax.{Name, Decl}
 use Rattle.rules.specs.Walk.{Var, Slot, find, is_none, initial, declare, declare_all}
 use Rattle.rules.specs.Cells.{cell, name_cell, type_kind}
-use Rattle.names.specs.Rows.{spelling, type_of, rows_from, slot_or}
+use Rattle.names.specs.Rows.{spelling, type_of, rows_from}
+use Rattle.walk.proofs.Slots.{slot_or}
 use Rattle.names.specs.Laws.{plainly, plainly_append, find_plainly, found_slot, stands_spelled, one_row_more}
 use Rattle.theorems.specs.Spelling.{letters_at, Spelled}
 use Rattle.walk.specs.Steps.{stack_start, kept, refused_at, checked}
 use Rattle.walk.specs.Walking.{Ready}
 use Rattle.walk.specs.Promises.{scope}
 use Rattle.walk.specs.Declaring.{declared}
-use Rattle.walk.specs.declared.steps.Step.{Step}
-use Rattle.walk.specs.declared.steps.Step.TheVariants.{Ok, Bad}
+use Rattle.walk.specs.Places.{Step, Ok, Bad}
 use Rattle.walk.proofs.Stores.{take_of_sets, drop-sets}
 use Rattle.walk.proofs.Onward.{moved_on}
 
 -- the type that a type's kind names
-type-kind : (t : Ty) → type_of (type_kind t) ≡ t
+pub type-kind : (t : Ty) → type_of (type_kind t) ≡ t
 unfolding type_of type_kind
 type-kind bool = refl
 type-kind dint = refl

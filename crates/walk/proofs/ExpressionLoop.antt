@@ -10,25 +10,26 @@ use Rattle.rules.specs.Base.{Res, ok, refuse, ◌>>=◌}
 use Rattle.rules.specs.Depth.{height}
 use Rattle.rules.specs.Syntax.{Exp}
 use Rattle.rules.specs.Walk.{Var, first, expression}
-use Rattle.rules.specs.Cells.{cell, WHOLE, whole_cells}
+use Rattle.rules.specs.Cells.{cell, WHOLE, type_kind, whole_cells}
+use Rattle.names.specs.Rows.{type_of}
 use Rattle.rules.specs.CoreCells.{expr_cells}
 use Rattle.theorems.specs.TokenPlaces.{Each, e_cons}
 use Rattle.walk.specs.Steps.{stack_start, cell_at, tag_at, skipped, left}
 use Rattle.walk.specs.Items.{Item, items, item_cell, item_cells, Operand, operand, Stacked, stacked, item_does, items_do}
 use Rattle.cells.specs.Reading.{is_item}
+use Rattle.cells.specs.declared.cell.Cell.{Cell}
 use Rattle.walk.specs.Walking.{Scope, Did, When}
 use Rattle.walk.specs.Promises.{scope, Spells, ExpressionMeans}
 use Rattle.walk.specs.Stacking.{Stack, bottom, ItemIn, Before, Behind, PartMeans}
-use Rattle.walk.specs.declared.steps.Step.{Step}
-use Rattle.walk.specs.declared.steps.Step.TheVariants.{Ok, Bad}
-use Rattle.walk.specs.declared.expressions.Inside.{Inside}
-use Rattle.walk.specs.declared.expressions.Value.{Value}
+use Rattle.walk.specs.Places.{Step, Ok, Bad, Inside, Value}
 use Rattle.walk.proofs.Moves.{some-ahead}
-use Rattle.walk.proofs.Follow.{place_of, free_of, Ends, begin, gives, bind, looks, skips, still_skipped}
-use Rattle.walk.proofs.Knowing.{still_did, skipped-stays, barred}
+use Rattle.walk.proofs.Follow.{place_of, free_of, Ends, begin, gives, bind, looks, skips, still_skipped, still_done}
+use Rattle.walk.proofs.Knowing.{skipped-stays, barred}
 use Rattle.walk.proofs.ExpressionItems.{exp_cells_lem, cells-length, expression-does, enough, items-spelled}
 use Rattle.walk.proofs.OperandStack.{stack_top, last_of}
 use Rattle.walk.proofs.ItemSteps.{given, also, answers, Known, knows}
+use Rattle.walk.proofs.Enters.{type-kind}
+use Rattle.walk.proofs.Refusals.{any_answer, no_skip}
 use Rattle.walk.proofs.ItemTags.{Tagged, name_t, whole_t, true_t, false_t, paren_t, sign_t, binary_t, cut}
 
 -- these items are still ahead, the operands lie in memory, and v was written
@@ -86,6 +87,11 @@ tag-item paren_t = refl
 tag-item sign_t = refl
 tag-item binary_t = refl
 
+-- the code tests it by the cell ahead
+pub tested : (m : List ℕ) (s : Step) {b v : Bool} {t : Cell} → t ≡ cell_at m s → b ≡ is_item t.tag → b ≡ v → is_item (tag_at m s) ≡ v
+unfolding tag_at
+tested m s sees is e = ap (λ c. is_item c.tag) (sym sees) ∙ sym is ∙ e
+
 -- where it is ahead, a cell is
 pub item-ahead : (m : List ℕ) (s : Step) → is_item (tag_at m s) ≡ true → 3 ≤ left m s
 unfolding is_item
@@ -96,6 +102,11 @@ open_here : (m : List ℕ) (p : ℕ) (s : Step) → is_item (tag_at m s) ≡ tru
 unfolding is_item tag_at cell_at
 open_here m p (Bad n q) t l = let z : ◌≡◌ {A = ℕ} 0 1 = cc in absurd (omega arith)
 open_here m p (Ok at free) t l = true-false (sym t ∙ ap (λ c. is_item c.tag) (l at free refl))
+
+-- no cell is ahead of a refusal
+no_item : (m : List ℕ) (n p : ℕ) → is_item (tag_at m (Bad n p)) ≡ false
+unfolding is_item tag_at cell_at
+no_item m n p = refl
 
 -- what holds of each holds of the first and of the others
 each_parts : {A : Type 0} {P : A → Type 0} {a : A} {s : List A} → Each P (a ∷ s) → P a × Each P s
@@ -127,7 +138,7 @@ module _ {text : List ℕ} {count : ℕ} {m₀ m m' : List ℕ} {s step : Step} 
       go (i ∷ is) os v f =
           rw (append_assoc (item_cell i) (item_cells is) (closing e))
           (bind (stacked [] []) (given (h vs i os)) (λ a b q. before i is os v (f a b q))
-          (λ x z. k is x.operands (v ++ x.cell) (λ a b q. behind i is os v x (still_did (h vs i os) f a b q) (z a b q))))
+          (λ x z. k is x.operands (v ++ x.cell) (λ a b q. behind i is os v x (still_done (h vs i os) f a b q) (z a b q))))
 
 -- the end: the tag ahead is not that of an item
 module _ {text : List ℕ} {count : ℕ} {m₀ m : List ℕ} {s step : Step} {top : ℕ} where
@@ -151,9 +162,14 @@ module _ {text : List ℕ} {count : ℕ} {m₀ m : List ℕ} {s step : Step} {to
           (looks (cut i).tag (cut i).place (cut i).datum (item_cells is ++ closing e) (λ l. barred (λ n p q. skipped-stays m z q) (closed i l)))
 
   -- so its value is what the rules say
-  pub expression-means : {v : Value} → is_item (tag_at m step) ≡ false → v.step ≡ skipped m step → v.first ≡ (cell_at m step).place → v.kind ≡ get_or m (top - 2) 0 → v.height ≡ get_or m (top - 1) 0
+  pub expression-means : {v : Value} → is_item (tag_at m step) ≡ false → v.step ≡ skipped m step → v.first ≡ (cell_at m step).place → v.kind ≡ type_kind (type_of (get_or m (top - 2) 0)) → v.height ≡ get_or m (top - 1) 0
       → Turns text count m₀ s m step top → ExpressionMeans text count m₀ m s v
   unfolding stacked operand
   expression-means t z f k h old vs e =
-      also (λ x y. record { first = f ∙ y.place_is; kind = k ∙ (last_of y.stack).kind; height = h ∙ (last_of y.stack).height })
+      also (λ x y. record { first = f ∙ y.place_is; kind = k ∙ ap (λ n. type_kind (type_of n)) (last_of y.stack).kind ∙ ap type_kind (type-kind _); height = h ∙ (last_of y.stack).height })
       (answers (λ x. stacked (operand x.type (height x.core) ∷ []) (expr_cells x.core)) (expression vs e) (rw (expression-does vs e) at (turns_end t z old vs e)))
+
+  -- a part was refused
+  pub expression-refused : {n p : ℕ} {v : Value} → step ≡ Bad n p → v.step ≡ Bad n p → Turns text count m₀ s m step top → ExpressionMeans text count m₀ m s v
+  expression-refused {n} {p} e z old vs x =
+      rw z (any_answer (expression-means {v = record { step = Bad n p; first = (cell_at m step).place; kind = type_kind (type_of (get_or m (top - 2) 0)); height = get_or m (top - 1) 0 }} (rw e (no_item m n p)) (rw e (no_skip m)) refl refl refl old vs x))

@@ -19,11 +19,11 @@ use Rattle.walk.specs.Operands.{capped, needed}
 use Rattle.walk.specs.Walking.{Did, Any}
 use Rattle.walk.specs.Promises.{scope, Spells, ValueIs, ExpressionMeans, ValuedMeans, HeldMeans}
 use Rattle.walk.specs.Stacking.{placed_at}
-use Rattle.walk.specs.declared.steps.Step.{Step}
-use Rattle.walk.specs.declared.expressions.Value.{Value}
+use Rattle.walk.specs.Places.{Step, Bad, Value}
+use Rattle.walk.proofs.Refusals.{no_check, no_write}
 use Rattle.walk.proofs.Moves.{moved-check, moved-write}
-use Rattle.walk.proofs.Follow.{begin, gives, bind, checks, writes, still_checked}
-use Rattle.walk.proofs.Knowing.{passed, still_did}
+use Rattle.walk.proofs.Follow.{begin, gives, bind, checks, writes, still_checked, still_done}
+use Rattle.walk.proofs.Knowing.{passed}
 use Rattle.walk.proofs.KindTables.{same_kind}
 use Rattle.walk.proofs.ItemSteps.{alone}
 
@@ -47,6 +47,11 @@ pub placed_of : (v : Value) (wanted place more : ℕ) (m : List ℕ) {m' : List 
 unfolding placed_at
 placed_of v wanted place more m e f g w = rw (g, f, e) at w
 
+-- behind a refusal nothing is tested or written
+pub placed_none : (v : Value) (wanted place more : ℕ) (m : List ℕ) {n p : ℕ} → v.step ≡ Bad n p
+    → (Bad n p ≡ extended m (placed_at v wanted place more)) × (m ≡ written m (placed_at v wanted place more) (cell WHOLE 0 (needed v.height more)))
+placed_none v wanted place more m e = placed_of v wanted place more m refl (rw e (no_check _ _ _)) (no_check _ _ _) (no_write m _)
+
 -- they go no further back
 pub moved-placed : (v : Value) (wanted place more : ℕ) (m : List ℕ) {m' : List ℕ} {r : Step}
     → (r ≡ extended m (placed_at v wanted place more)) × (m' ≡ written m (placed_at v wanted place more) (cell WHOLE 0 (needed v.height more))) → left m' r ≤ left m v.step
@@ -65,7 +70,7 @@ module _ (more : ℕ) {text : List ℕ} {count wanted place : ℕ} {m m₁ m' : 
   places Given vs t p e spells knows =
       begin (λ g.
       alone (whole_cells e) (bind (typed (var 0) bool) (h vs e) (λ a f q. spells (g a f q)) (λ x y.
-      let z = still_did (h vs e) g in
+      let z = still_done (h vs e) g in
       checks {slack = 3} (eqb v.kind wanted) (same_ty x.type t) 8 place p refl (λ a f q. let k = knows x (z a f q) (y a f q) in (kind x (y a f q) k.0, k.1))
       (checks {slack = 3} (leb (needed v.height more) stack_limit) (leb (height x.core + more) stack_limit) 10 v.first (first e) refl
       (still_checked _ 8 place refl (λ a f q. (ap (λ n. leb (needed n more) stack_limit) (y a f q).height ∙ needed_within (height x.core) more, (y a f q).first)))

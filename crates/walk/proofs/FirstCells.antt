@@ -13,8 +13,7 @@ use Rattle.rules.specs.Cells.{cell, end_cell, name_cell, whole_cells, maybe_cell
 use Rattle.walk.specs.Steps.{tag_at, cell_at}
 use Rattle.walk.specs.Constants.{is_constant}
 use Rattle.walk.specs.Walking.{Scope, Ready, Did}
-use Rattle.walk.specs.declared.steps.Step.{Step}
-use Rattle.walk.specs.declared.steps.Step.TheVariants.{Ok, Bad}
+use Rattle.walk.specs.Places.{Step, Ok, Bad}
 use Rattle.walk.proofs.Follow.{Ends, begin}
 use Rattle.walk.proofs.Along.{nowhere, tag-ahead}
 

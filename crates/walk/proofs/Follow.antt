@@ -14,8 +14,7 @@ use Rattle.rules.specs.Cells.{cell}
 use Rattle.names.specs.Laws.{rows_stay}
 use Rattle.walk.specs.Steps.{stack_start, kept, cell_at, skipped, refused_at, checked, extended, written}
 use Rattle.walk.specs.Walking.{Scope, Ready, Walked, went, fell, Did, walks, stays, When}
-use Rattle.walk.specs.declared.steps.Step.{Step}
-use Rattle.walk.specs.declared.steps.Step.TheVariants.{Ok, Bad}
+use Rattle.walk.specs.Places.{Step, Ok, Bad}
 use Rattle.walk.proofs.Stores.{sets_append, take-sets, drop-sets, take_of_sets, behind_part, start_of_take}
 
 -- where a step stands; a refusal stands nowhere
@@ -113,6 +112,12 @@ still_written {P} m {s} {s₁} e h at free q = go s (sym q ∙ e) h
     go : (s : Step) → Ok at free ≡ extended m s → When s P → P
     go (Ok a f) z h = h a f refl
     go (Bad o k) z h = let y : ◌≡◌ {A = ℕ} 0 1 = cc in absurd (omega arith)
+
+-- also behind a call
+pub still_done : {P : Type 0} {σ : Scope} {Given : Type 0} {A : Type 0} {Q : A → Type 0} {encode : A → List ℕ} {gain : ℕ} {cells m m₁ : List ℕ} {s s₁ : Step} {R : Res A}
+    → Did σ Given Q encode gain cells m m₁ s s₁ R → When s P → When s₁ P
+still_done (walks d) h at free e = h _ _ refl
+still_done stays h at free e = h at free e
 
 -- the numbers of a cell that is ahead lie there
 room-ahead : {σ : Scope} {m : List ℕ} {at free : ℕ} (t p d : ℕ) (w : List ℕ) → Ready σ m at free (cell t p d ++ w) → leb (at + 3) (length (kept m)) ≡ true

@@ -7,7 +7,7 @@ use Prim.Native.Nat.{ℕ}
 use native.Mathlib.Omega.{arith}
 use lib.Dec.{eqb}
 use lib.IntN.{pos}
-use Rattle.rules.specs.Numbers.{Ty, bool, dint, same_ty}
+use Rattle.rules.specs.Numbers.{same_ty}
 use Rattle.rules.specs.Bytes.{to_u}
 use Rattle.rules.specs.Kinds.{FINISH}
 use Rattle.rules.specs.Syntax.{Con, con_bool, con_int, Decl}
@@ -18,21 +18,13 @@ use Rattle.walk.specs.Steps.{tag_at, skipped, checked, extended, written, Moves}
 use Rattle.walk.specs.Walking.{Scope, Ready, Did, Any, When}
 use Rattle.walk.specs.Promises.{ConstantIs, ConstantMeans}
 use Rattle.walk.specs.Declaring.{declared, var_cell, Names, InitialMeans}
-use Rattle.walk.specs.declared.steps.Step.{Step}
-use Rattle.walk.specs.declared.steps.Step.TheVariants.{Ok}
-use Rattle.walk.specs.declared.steps.Cell.{Cell}
-use Rattle.walk.specs.declared.constants.Literal.{Literal}
+use Rattle.rules.specs.declared.kinds.Type as Kinds
+use Rattle.walk.specs.Places.{Step, Ok, Literal, type_number}
+use Rattle.cells.specs.declared.cell.Cell.{Cell}
+use Rattle.walk.proofs.KindTables.{same_kind}
 use Rattle.walk.proofs.Moves.{moved-skip, moved-check, moved-write}
-use Rattle.walk.proofs.Follow.{begin, gives, bind, checks, skips, writes, still_checked, still_skipped}
-use Rattle.walk.proofs.Onward.{tag-ahead, still_did, elsewhere}
-
--- kinds are equal where types are
-same_kinds : (t u : Ty) → eqb (type_kind t) (type_kind u) ≡ same_ty t u
-unfolding type_kind same_ty
-same_kinds bool bool = refl
-same_kinds bool dint = refl
-same_kinds dint bool = refl
-same_kinds dint dint = refl
+use Rattle.walk.proofs.Follow.{begin, gives, bind, checks, skips, writes, still_checked, still_skipped, still_done}
+use Rattle.walk.proofs.Onward.{tag-ahead, elsewhere}
 
 -- a constant's first cell does not close
 con-tag : {σ : Scope} {m : List ℕ} {s : Step} {at free : ℕ} (c : Con) → s ≡ Ok at free → Ready σ m at free (con_cells c) → tag_at m s ≡ FINISH → ⊥
@@ -46,6 +38,10 @@ con-tag (con_int p false q v) e y z = let t = tag-ahead _ _ _ _ e y in omega ari
 var-cell : (d : Decl) (c : Con) → var_cell (declared d (con_value c)) ≡ cell (type_kind d.type) 0 (to_u (con_value c))
 unfolding var_cell declared variable_cell
 var-cell d c = refl
+
+-- a name of this type and place
+abbrev pub named : Kinds.Type → ℕ → Cell
+named t place = record { tag = type_number t; place = place; datum = 0 }
 
 module _ {m m' : List ℕ} {s r : Step} (name : Cell) where
   -- No constant: 0
@@ -77,10 +73,10 @@ module _ {m m' : List ℕ} {s r : Step} (name : Cell) where
     valued σ d c = rw (append-nil (con_cells c)) at chain
       where
         typed : When s (Names name d) → When l.step (ConstantIs c l) → When l.step ((eqb l.kind name.tag ≡ same_ty (con_type c) d.type) × (name.place ≡ d.name.place))
-        typed g q at free e = let n = still_did (means σ c) g at free e in (rw ((q at free e).kind, n.0) (same_kinds (con_type c) d.type), n.1)
+        typed g q at free e = let n = still_done (means σ c) g at free e in (rw ((q at free e).kind, n.0) (same_kind (con_type c) d.type), n.1)
 
         stored : When s (Names name d) → When l.step (ConstantIs c l) → When l.step (cell name.tag 0 l.bits ≡ cell (type_kind d.type) 0 (to_u (con_value c)))
-        stored g q at free e = let n = still_did (means σ c) g at free e in rw (n.0, (q at free e).bits)
+        stored g q at free e = let n = still_done (means σ c) g at free e in rw (n.0, (q at free e).bits)
 
         chain : Did σ (Names name d) Any (λ z. var_cell (declared d z)) 0 (con_cells c ++ []) m m' s r (initial d (some c))
         chain =

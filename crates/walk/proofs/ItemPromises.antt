@@ -17,7 +17,8 @@ use Rattle.rules.specs.Codes.{bin_code}
 use Rattle.rules.specs.Syntax.{Name, Sign}
 use Rattle.rules.specs.Walk.{Var, Slot, find, is_none, known, largest, takes, sign_ty}
 use Rattle.rules.specs.Cells.{cell, name_cell, type_kind, truth_kind, sign_code, UNARY, BINARY}
-use Rattle.names.specs.Rows.{spelling, type_of, rows_from, slot_or}
+use Rattle.names.specs.Rows.{spelling, type_of, rows_from}
+use Rattle.walk.proofs.Slots.{slot_or}
 use Rattle.names.specs.Laws.{found_type}
 use Rattle.theorems.specs.WellTyped.{same-ty}
 use Rattle.theorems.specs.Spelling.{Spelled}
@@ -27,9 +28,8 @@ use Rattle.walk.specs.Items.{name_i, whole_i, truth_i, paren_i, sign_i, binary_i
 use Rattle.walk.specs.Walking.{Scope, Did, When}
 use Rattle.walk.specs.Promises.{scope}
 use Rattle.walk.specs.Stacking.{Stack, Stacks, ItemIn, name_in, Before, Behind, ItemDone, Read, VariableMeans, SignMeans, OperationMeans, sign_place}
-use Rattle.walk.specs.declared.steps.Step.{Step}
-use Rattle.walk.specs.declared.steps.Cell.{Cell}
-use Rattle.walk.specs.declared.expressions.Inside.{Inside}
+use Rattle.walk.specs.Places.{Step, Inside}
+use Rattle.cells.specs.declared.cell.Cell.{Cell}
 use Rattle.walk.proofs.Follow.{place_of, free_of, Ends, begin, gives, checks, looks, skips, writes, still_checked, still_skipped, still_written}
 use Rattle.walk.proofs.Knowing.{passed}
 use Rattle.walk.proofs.KindTables.{same_kind, sign-kind, sign-cell, taken-kind, given-kind, higher-height}

@@ -16,9 +16,7 @@ use Rattle.walk.specs.Operands.{capped, pushed, pushed_to}
 use Rattle.walk.specs.Items.{Operand}
 use Rattle.walk.specs.Walking.{Scope, Ready, Walked, went, fell, Did, walks, stays, Nothing, nothing, When}
 use Rattle.walk.specs.Stacking.{Stack, Stacks}
-use Rattle.walk.specs.declared.steps.Step.{Step}
-use Rattle.walk.specs.declared.steps.Step.TheVariants.{Ok, Bad}
-use Rattle.walk.specs.declared.expressions.Inside.{Inside}
+use Rattle.walk.specs.Places.{Step, Ok, Bad, Inside}
 use Rattle.walk.proofs.Moves.{kept_short}
 use Rattle.walk.proofs.Follow.{Ends, on, off, bind, writes, still_written}
 use Rattle.walk.proofs.Knowing.{knowing}

@@ -18,10 +18,10 @@ use Rattle.walk.specs.Items.{Item, name_i, whole_i, truth_i, paren_i, sign_i, bi
 use Rattle.walk.specs.Walking.{Scope, Ready, Walked, Did, walks, stays}
 use Rattle.walk.specs.Promises.{scope}
 use Rattle.walk.specs.Stacking.{Stacks, Before, Behind, ItemDone, PartMeans, Read, VariableMeans, SignMeans, OperationMeans}
-use Rattle.walk.specs.declared.steps.Step.{Step}
-use Rattle.walk.specs.declared.steps.Step.TheVariants.{Ok, Bad}
-use Rattle.walk.specs.declared.steps.Cell.{Cell}
-use Rattle.walk.specs.declared.expressions.Inside.{Inside}
+use Rattle.walk.specs.Places.{Step, Ok, Bad, Inside, at}
+use Rattle.walk.specs.Moving.{Skips}
+use Rattle.walk.specs.declared.steps.Walk.{Walk}
+use Rattle.cells.specs.declared.cell.Cell.{Cell}
 use Rattle.walk.proofs.Follow.{cell-ahead}
 use Rattle.walk.proofs.ItemPromises.{truth_done, whole_done, paren_done}
 
@@ -125,3 +125,7 @@ module _ {text m m' : List ℕ} {count top : ℕ} {s behind : Step} {r : Inside}
       go paren_t e = absurd (p e)
       go sign_t e = absurd (g e)
       go binary_t e = h _ _ _ os s y
+
+-- the cell that the code read, and where it stands behind it
+pub was_read : {c : Cell} {old new : Walk} → c ≡ cell_at old.memory.now (at old) → Skips old new → Read old.memory.now c (at new) (at old)
+was_read sees past = record { cell = sees; step = past.step }

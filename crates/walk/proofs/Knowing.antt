@@ -6,9 +6,8 @@ use Prim.Native.Nat.{ℕ}
 use native.Mathlib.Omega.{arith}
 use Rattle.rules.specs.Base.{Res, ok, ◌>>=◌, need}
 use Rattle.walk.specs.Steps.{skipped, refused_at, checked, extended}
-use Rattle.walk.specs.Walking.{Scope, Walked, Did, walks, stays, When}
-use Rattle.walk.specs.declared.steps.Step.{Step}
-use Rattle.walk.specs.declared.steps.Step.TheVariants.{Ok, Bad}
+use Rattle.walk.specs.Walking.{Scope, Walked, Did, When}
+use Rattle.walk.specs.Places.{Step, Ok, Bad}
 use Rattle.walk.proofs.Follow.{Here, Ends, on, off}
 
 -- past a test that held
@@ -50,12 +49,6 @@ whenever f h at free e = f (h at free e)
 -- and joined
 pub both : {P P' : Type 0} {s : Step} → When s P → When s P' → When s (P × P')
 both h k at free e = (h at free e, k at free e)
-
--- facts that hold unless there was a refusal hold behind a call
-pub still_did : {σ : Scope} {Given A P : Type 0} {Q : A → Type 0} {encode : A → List ℕ} {gain : ℕ} {cells m m' : List ℕ} {s r : Step} {R : Res A}
-    → Did σ Given Q encode gain cells m m' s r R → When s P → When r P
-still_did (walks {at} {free} d) h a f e = h at free refl
-still_did stays h a f e = h a f e
 
 -- the cells are grouped otherwise
 pub regrouped : {σ : Scope} {Given A : Type 0} {Q : A → Type 0} {encode : A → List ℕ} {gain : ℕ} {cells cells' m m' : List ℕ} {s r : Step} {R : Res A}

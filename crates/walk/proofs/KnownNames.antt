@@ -12,7 +12,8 @@ use Rattle.rules.specs.Base.{Res, ◌>>=◌, need}
 use Rattle.rules.specs.Numbers.{bool}
 use Rattle.rules.specs.Syntax.{Name}
 use Rattle.rules.specs.Walk.{Var, Slot, find, is_none, known_at}
-use Rattle.names.specs.Rows.{spelling, rows_from, slot_or}
+use Rattle.names.specs.Rows.{spelling, rows_from}
+use Rattle.walk.proofs.Slots.{slot_or}
 use Rattle.names.specs.Laws.{length_rows, plainly, length_plainly, stands_spelled, find_plainly, found_slot}
 use Rattle.theorems.specs.Spelling.{letters_at, Spelled}
 

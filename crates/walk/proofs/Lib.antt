@@ -5,6 +5,7 @@ pub mod CellRooms
 pub mod Follow
 pub mod Knowing
 pub mod Onward
+pub mod Refusals
 -- Constants
 pub mod ConstantValues
 pub mod ConstantAhead
@@ -23,6 +24,7 @@ pub mod ItemTags
 pub mod ExpressionLoop
 pub mod ExpressionPlaced
 -- Statements
+pub mod Slots
 pub mod Marks
 pub mod Along
 pub mod Targets

@@ -11,8 +11,7 @@ use lib.Seq.{sets, length-sets}
 use borrow.Author.Tests.{leb-true}
 use Rattle.rules.specs.Base.{pick}
 use Rattle.walk.specs.Steps.{stack_start, kept, cell_at, tag_at, skipped, refused_at, checked, extended, written, left}
-use Rattle.walk.specs.declared.steps.Step.{Step}
-use Rattle.walk.specs.declared.steps.Step.TheVariants.{Ok, Bad}
+use Rattle.walk.specs.Places.{Step, Ok, Bad}
 
 -- only the length of what lies before the stack matters
 pub left_same : (s : Step) (m m' : List ℕ) → length (kept m') ≡ length (kept m) → left m' s ≡ left m s

@@ -12,9 +12,8 @@ use Rattle.rules.specs.Cells.{cell}
 use Rattle.names.specs.Rows.{rows_from}
 use Rattle.names.specs.Laws.{plainly, rows_stay}
 use Rattle.walk.specs.Steps.{stack_start, kept, cell_at, tag_at, skipped}
-use Rattle.walk.specs.Walking.{Scope, Ready, Walked, went, fell, Did, walks, stays, When}
-use Rattle.walk.specs.declared.steps.Step.{Step}
-use Rattle.walk.specs.declared.steps.Step.TheVariants.{Ok, Bad}
+use Rattle.walk.specs.Walking.{Scope, Ready, Walked, went, fell, Did, walks, stays}
+use Rattle.walk.specs.Places.{Step, Ok, Bad}
 use Rattle.walk.proofs.Follow.{cell-ahead}
 use Rattle.walk.proofs.Stores.{take-sets, drop-sets, behind_part, start_of_take}
 
@@ -132,12 +131,6 @@ after {σ} {Given} {A} {Q} {encode} {gain} {m} {m'} {at} {free} a w (walks d) g 
 pub refusal-stays : {σ : Scope} {Given : Type 0} {A : Type 0} {Q : A → Type 0} {encode : A → List ℕ} {gain : ℕ} {cells m m' : List ℕ} {n p : ℕ} {r : Step} {R : Res A}
     → Did σ Given Q encode gain cells m m' (Bad n p) r R → r ≡ Bad n p
 refusal-stays stays = refl
-
--- where a call went on, no refusal was before it
-pub still_did : {P : Type 0} {σ : Scope} {Given : Type 0} {A : Type 0} {Q : A → Type 0} {encode : A → List ℕ} {gain : ℕ} {cells m m' : List ℕ} {s r : Step} {R : Res A}
-    → Did σ Given Q encode gain cells m m' s r R → When s P → When r P
-still_did (walks {at} {free} d) h a f e = h at free refl
-still_did stays h a f e = let z : ◌≡◌ {A = ℕ} 0 1 = cc in absurd (omega arith)
 
 -- the cells cannot be ahead, so only a refusal has to stay, as it does past other cells
 pub elsewhere : {σ : Scope} {Given : Type 0} {A : Type 0} {Q : A → Type 0} {encode : A → List ℕ} {gain : ℕ} {cells m m' : List ℕ} {s r : Step} {R : Res A}

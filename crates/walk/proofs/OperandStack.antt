@@ -15,9 +15,9 @@ use Rattle.walk.specs.Steps.{stack_start, kept, extended, written, Moves}
 use Rattle.walk.specs.Operands.{capped, pushed, pushed_to}
 use Rattle.walk.specs.Items.{Operand}
 use Rattle.walk.specs.Stacking.{Stack, bottom, above, Stacks}
-use Rattle.walk.specs.declared.steps.Step.{Step}
-use Rattle.walk.specs.declared.steps.Step.TheVariants.{Ok, Bad}
-use Rattle.walk.specs.declared.expressions.Inside.{Inside}
+use Rattle.walk.specs.Places.{Step, Ok, Bad, Inside, standing}
+use Rattle.walk.specs.Moving.{Writes, Pushes}
+use Rattle.walk.specs.declared.steps.Walk.{Walk}
 use Rattle.walk.proofs.Stores.{take-sets}
 use Rattle.walk.proofs.Moves.{kept_short, left_same, moved-write}
 
@@ -124,16 +124,7 @@ length-pushed m end xs = go (leb (end + 2) (length m))
     go true = length-sets m end xs
     go false = refl
 
--- a cell was written, then an operand put
-pub stacks_of : {m m₁ m₂ c two : List ℕ} {s s₁ : Step} {end top : ℕ} → (s₁ ≡ extended m s) × (m₁ ≡ written m s c) → (top ≡ pushed_to (length m₁) end) × (m₂ ≡ pushed m₁ end two)
-    → Stacks m m₂ s end c two (record { step = s₁; top = top })
-stacks_of {m} {c} {two} {s} {end} w p = record {
-  step = w.0;
-  top = p.0 ∙ ap (λ n. pushed_to n end) (ap (λ (l : List ℕ). length l) w.1 ∙ length-written m s c);
-  numbers = p.1 ∙ ap (λ l. pushed l end two) w.1;
-}
-
--- which goes no further back
+-- a cell that is written and an operand that is put go no further back
 pub moved-stacks : {m m' : List ℕ} {s : Step} {end : ℕ} {c two : List ℕ} {i : Inside} → Stacks m m' s end c two i → Moves 0 m m' s i.step
 unfolding kept
 moved-stacks {m} {s} {end} {c} {two} {i} w =
@@ -143,3 +134,17 @@ moved-stacks {m} {s} {end} {c} {two} {i} w =
   where
     pushed_kept : (m : List ℕ) (end : ℕ) (xs : List ℕ) → length (kept (pushed m end xs)) ≡ length (kept m)
     pushed_kept m end xs = length-take stack_start (pushed m end xs) ∙ rw (length-pushed m end xs) (sym (length-take stack_start m))
+
+-- behind a refusal it would be put as well, but the walk has ended
+pub stacks_none : {n p : ℕ} (m : List ℕ) (end : ℕ) (c xs : List ℕ) → Stacks m (pushed m end xs) (Bad n p) end c xs (record { step = Bad n p; top = pushed_to (length m) end })
+unfolding extended written
+stacks_none m end c xs = record { step = refl; top = refl; numbers = refl }
+
+-- a cell was written, and then an operand put where the stack was cut
+pub stacked_behind : {old mid new : Walk} {s : Step} {c xs : List ℕ} (end : ℕ) → Writes old s c mid → Pushes (record { memory = mid.memory; at = mid.at; free = mid.free; top = end }) xs new
+    → Stacks old.memory.now new.memory.now s end c xs (standing new)
+stacked_behind {old} {mid} {new} {s} {c} {xs} end w p = record {
+  step = p.step ∙ w.step;
+  top = p.top ∙ ap (λ n. pushed_to n end) w.long;
+  numbers = p.numbers ∙ ap (λ l. pushed l end xs) w.numbers;
+}

@@ -16,9 +16,9 @@ use Rattle.rules.specs.Walk.{walk}
 use Rattle.rules.specs.Cells.{cells, tree_cells, refused_lent, tokens_for, tree_left, parsed_left, parsed}
 use Rattle.rules.specs.CoreCells.{program_for, program_left, walked}
 use Rattle.rules.specs.Compile.{front}
-use Rattle.rules.specs.Answers.{left, TreeFits}
-use Rattle.rules.specs.declared.Stage.{Stage}
-use Rattle.rules.specs.declared.Stage.TheVariants.{Left, Refused}
+use Rattle.std.specs.Prelude.{Result, Ok as Left, Err as Refused}
+use Rattle.rules.specs.Answers.{fault_number, left, TreeFits}
+use Rattle.rules.specs.declared.compiling.Refusal.{Refusal}
 
 -- the program of a text: its tokens, its tree, the walk
 program_for_lem : (lent : ℕ) (text : List ℕ) → program_for lent text ≡ ◌>>=◌ (tokens_for memory_numbers lent text) (λ ts. ◌>>=◌ (parse ts) walk)
@@ -37,17 +37,17 @@ unfolding ◌>>=◌
 program_of lent text ts t e f = program_for_lem (length lent) text ∙ ap (λ o. ◌>>=◌ o (λ ts. ◌>>=◌ (parse ts) walk)) e ∙ ap (λ o. ◌>>=◌ o walk) f
 
 -- a text that is not parsed has no program
-pub unparsed : (text lent : List ℕ) {r : Stage} {m : List ℕ} (n p : ℕ) → r ≡ Refused n p → left r m ≡ parsed text lent → (left r m ≡ walked text lent) × TreeFits r
+pub unparsed : (text lent : List ℕ) {m : List ℕ} (w : Refusal) → left (Refused w) m ≡ parsed text lent → (left (Refused w) m ≡ walked text lent) × TreeFits (Refused w)
 unfolding parsed parsed_left walked program_left tree_left ◌>>=◌
-unparsed text lent {r} {m} n p e q = (rw (program_for_lem (length lent) text) (go (tokens_for memory_numbers (length lent) text) q), rw e tt)
+unparsed text lent {m} w q = (rw (program_for_lem (length lent) text) (go (tokens_for memory_numbers (length lent) text) q), tt)
   where
-    by : (ts : List Token) (o : Res Tree) → left r m ≡ tree_left o lent (sets lent 0 (cells ts)) → left r m ≡ program_left (◌>>=◌ o walk) lent
+    by : (ts : List Token) (o : Res Tree) → left (Refused w) m ≡ tree_left o lent (sets lent 0 (cells ts)) → left (Refused w) m ≡ program_left (◌>>=◌ o walk) lent
     by ts (refuse x y) q = q
     by ts (ok t) q =
-        let a : refuse n p ≡ ok (length (tree_cells t)) = rw e at (ap (λ l. l.answer) q) in
+        let a : refuse (fault_number w.fault) w.place ≡ ok (length (tree_cells t)) = ap (λ l. l.answer) q in
         let z : ◌≡◌ {A = ℕ} 0 1 = cc in absurd (omega arith)
 
-    go : (o : Res (List Token)) → left r m ≡ parsed_left o lent → left r m ≡ program_left (◌>>=◌ o (λ ts. ◌>>=◌ (parse ts) walk)) lent
+    go : (o : Res (List Token)) → left (Refused w) m ≡ parsed_left o lent → left (Refused w) m ≡ program_left (◌>>=◌ o (λ ts. ◌>>=◌ (parse ts) walk)) lent
     go (refuse x y) q = q
     go (ok ts) q = by ts (parse ts) q
 
@@ -57,7 +57,7 @@ pub data Parsed (text lent m : List ℕ) : Type 0 where
       → m ≡ sets (sets lent 0 (cells ts)) token_numbers (tree_cells t) → Parsed text lent m
 
 -- it left one if it did not refuse
-pub was_parsed : (text lent : List ℕ) {r : Stage} {m : List ℕ} (count : ℕ) → r ≡ Left count → (left r m ≡ parsed text lent) × TreeFits r → Parsed text lent m
+pub was_parsed : (text lent : List ℕ) {r : Result ℕ Refusal} {m : List ℕ} (count : ℕ) → r ≡ Left count → (left r m ≡ parsed text lent) × TreeFits r → Parsed text lent m
 unfolding parsed parsed_left tree_left refused_lent
 was_parsed text lent {r} {m} count e q = go (tokens_for memory_numbers (length lent) text) refl q.0
   where

@@ -15,8 +15,7 @@ use Rattle.rules.specs.Cells.{cell, end_cell, con_cells, maybe_cells}
 use Rattle.walk.specs.Steps.{cell_at, tag_at, skipped, checked, extended, written}
 use Rattle.walk.specs.Constants.{is_constant}
 use Rattle.walk.specs.Promises.{ConstantIs, ConstantMeans, ByMeans}
-use Rattle.walk.specs.declared.steps.Step.{Step}
-use Rattle.walk.specs.declared.constants.Literal.{Literal}
+use Rattle.walk.specs.Places.{Step, Literal}
 use Rattle.walk.proofs.Follow.{begin, gives, bind, checks, looks, skips, writes, still_checked}
 use Rattle.walk.proofs.Knowing.{whenever, regrouped, barred, skipped-stays, extended-stays}
 use Rattle.walk.proofs.ConstantValues.{dint-kind, exact-zero}

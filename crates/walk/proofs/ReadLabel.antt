@@ -20,12 +20,11 @@ use Rattle.walk.specs.Steps.{cell_at, tag_at, checked, extended, written, left}
 use Rattle.walk.specs.Walking.{Scope, When, Any}
 use Rattle.walk.specs.Promises.{ConstantIs, ConstantMeans}
 use Rattle.walk.specs.LabelPromises.{HighIs, lone, ranged, tag_behind, LabelMeans}
-use Rattle.walk.specs.declared.steps.Step.{Step}
-use Rattle.walk.specs.declared.steps.Step.TheVariants.{Ok, Bad}
-use Rattle.walk.specs.declared.constants.Literal.{Literal}
-use Rattle.walk.proofs.Follow.{Ends, place_of, begin, gives, bind, checks, looks, skips, writes, still_checked, still_skipped}
+use Rattle.walk.specs.Places.{Step, Ok, Bad, Literal}
+use Rattle.walk.proofs.Follow.{Ends, place_of, begin, gives, bind, checks, looks, skips, writes, still_checked, still_skipped, still_done}
 use Rattle.walk.proofs.Moves.{moved-skip}
-use Rattle.walk.proofs.Knowing.{whenever, both, need-alone, goes_on, likewise, knowing, regrouped, still_did, barred, checked-stays, extended-stays}
+use Rattle.walk.proofs.Refusals.{no_check, no_write}
+use Rattle.walk.proofs.Knowing.{whenever, both, need-alone, goes_on, likewise, knowing, regrouped, barred, checked-stays, extended-stays}
 use Rattle.walk.proofs.ConstantValues.{dint-kind, exact-value}
 
 -- reading the high value goes on from the low one
@@ -77,6 +76,30 @@ spanned slack {low = low} c d k known =
 refused : {m m' : List ℕ} {low high : Literal} {r : Step} → Closes m m' low high r → {n p : ℕ} → high.step ≡ Bad n p → r ≡ Bad n p
 refused {m} k e = extended-stays m k.wrote.0 (checked-stays _ _ _ k.ordering (checked-stays _ _ _ k.typing e))
 
+-- behind a refusal nothing is done
+pub closes_none : {m : List ℕ} (low high : Literal) {n p : ℕ} → high.step ≡ Bad n p → Closes m m low high (Bad n p)
+closes_none {m} low high {n} {p} e = record {
+  integers = _;
+  dints = refl;
+  typed = Bad n p;
+  typing = rw e (no_check _ _ _);
+  ordered = Bad n p;
+  ordering = no_check _ _ _;
+  wrote = no_write m _;
+}
+
+-- the constants have other types
+pub closes_untyped : {m : List ℕ} (low high : Literal) {n p : ℕ} (b : Bool) → b ≡ eqb low.kind DINT && eqb high.kind DINT → Bad n p ≡ checked b 8 low.first high.step → Closes m m low high (Bad n p)
+closes_untyped {m} low high {n} {p} b d e = record {
+  integers = b;
+  dints = d;
+  typed = Bad n p;
+  typing = e;
+  ordered = Bad n p;
+  ordering = no_check _ _ _;
+  wrote = no_write m _;
+}
+
 -- no tag is ahead of a refusal
 pub refusal-ahead : (m : List ℕ) {s : Step} {n p : ℕ} → s ≡ Bad n p → tag_at m s ≡ 0
 unfolding tag_at cell_at
@@ -101,9 +124,12 @@ label-read {m} {s = s} means (ranged dots moves high) k σ c none =
     knowing
     (λ at free e y.
     let place : at ≡ place_of s + length (con_cells c) = sym (add-zero at) ∙ y.place ∙ ap (λ l. place_of s + length l) (append-nil (con_cells c)) in
-    still_did (means σ c) (none_there m s (length (con_cells c)) at free place given) at free e (ap (tag_at m) (sym e) ∙ dots))
+    still_done (means σ c) (none_there m s (length (con_cells c)) at free place given) at free e (ap (tag_at m) (sym e) ∙ dots))
     (λ never. barred (λ n p e. let z = sym (refusal-ahead m e) ∙ dots in absurd (omega arith)) never))))
 label-read {m} means (ranged dots moves high) k σ c (some d) =
     regrouped (ranged-cells c d)
     (begin (λ given. bind tt (means σ c) (λ at free e. tt) (λ _ is. skips DOTS 0 0 refl (bind tt (high σ d) (λ at free e. tt) (λ _ is₂.
-    spanned 6 c d k (both (still_did (high σ d) (still_skipped m refl is)) is₂))))))
+    spanned 6 c d k (both (still_done (high σ d) (still_skipped m refl is)) is₂))))))
+
+pub no_dots : (m : List ℕ) (n p : ℕ) → tag_at m (Bad n p) ≡ DOTS → ⊥
+no_dots m n p e = let z = sym (refusal-ahead m {s = Bad n p} refl) ∙ e in omega arith

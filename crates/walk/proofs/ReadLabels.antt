@@ -4,7 +4,7 @@ use mathlib.Core.Bool.{Bool, true, false}
 use mathlib.Core.List as L
 use mathlib.Core.List.{[], ◌∷◌, ◌++◌, append-nil, append_assoc}
 use mathlib.Core.Option.{none, some}
-use Prim.Native.Nat.{ℕ, ◌+◌}
+use Prim.Native.Nat.{ℕ, ◌+◌, ◌≤◌, ◌<◌}
 use native.Mathlib.Nat.{add-zero}
 use native.Mathlib.Omega.{arith}
 use lib.Dec.{leb}
@@ -17,14 +17,15 @@ use Rattle.rules.specs.Syntax.{Con, con_bool, con_int, Label, label}
 use Rattle.rules.specs.Walk.{con_value, high_of, labels}
 use Rattle.rules.specs.Cells.{cell, truth_kind, sign_kind, con_cells, label_cells, labels_cells}
 use Rattle.rules.specs.CoreCells.{span_cells}
-use Rattle.walk.specs.Steps.{kept, cell_at, tag_at, skipped, extended, written}
+use Rattle.walk.specs.Steps.{kept, cell_at, tag_at, skipped, extended, written, left, Moves}
 use Rattle.walk.specs.Constants.{is_constant}
-use Rattle.walk.specs.Walking.{Scope, Ready}
+use Rattle.walk.specs.Walking.{Scope, Ready, stays}
 use Rattle.walk.specs.Promises.{LabelsMean}
 use Rattle.walk.specs.LabelPromises.{tag_behind, LabelMeans}
-use Rattle.walk.specs.declared.steps.Step.{Step}
-use Rattle.walk.specs.declared.steps.Step.TheVariants.{Ok}
-use Rattle.walk.specs.declared.steps.Cell.{Cell}
+use Rattle.walk.specs.Places.{Step, Ok, Bad}
+use Rattle.cells.specs.declared.cell.Cell.{Cell}
+use Rattle.walk.proofs.Moves.{some-ahead}
+use Rattle.walk.proofs.Along.{Heads, moved-head}
 use Rattle.walk.proofs.Stores.{behind_part}
 use Rattle.walk.proofs.Follow.{begin, gives, bind, looks, skips, writes}
 use Rattle.walk.proofs.Knowing.{whenever, knowing, regrouped, barred, skipped-stays, extended-stays}
@@ -87,3 +88,34 @@ labels_end {m} other past w σ [] = begin (λ _. skips COLON 0 0 past (writes {s
 labels_end {m} other past w σ (l ∷ ls) =
     begin (λ _. label-ahead l (labels_cells ls) (λ starts.
     barred (λ n p e. extended-stays m w.0 (skipped-stays m past e)) (whenever (λ e. let z = sym other ∙ e in let y : ◌≡◌ {A = ℕ} 0 1 = cc in omega arith) starts)))
+
+-- From the loop's beginning at s with the numbers m the walk has come to s₁ with the numbers m₁: whatever is promised of what is ahead there is promised of all
+pub record LabelTurns (m : L.List ℕ) (s : Step) (m₁ : L.List ℕ) (s₁ : Step) : Type 0 where
+  pub far : left m₁ s₁ ≤ left m s
+  pub rest : (mₑ : L.List ℕ) (r : Step) → LabelsMean m₁ mₑ s₁ r → LabelsMean m mₑ s r
+
+pub turns_start : (m : L.List ℕ) (s : Step) → LabelTurns m s m s
+turns_start m s = record { far = omega arith; rest = λ mₑ r means. means }
+
+-- the code tests it by the cell ahead
+pub tested : (m : L.List ℕ) (s : Step) {b v : Bool} {t : Cell} → t ≡ cell_at m s → b ≡ is_constant t.tag → b ≡ v → is_constant (tag_at m s) ≡ v
+unfolding tag_at
+tested m s sees is e = ap (λ c. is_constant c.tag) (sym sees) ∙ sym is ∙ e
+
+-- a label is ahead, so a cell is
+label_there : (m : L.List ℕ) (s : Step) → is_constant (tag_at m s) ≡ true → 3 ≤ left m s
+unfolding is_constant
+label_there m s starts = some-ahead _ _ (λ e. let z = ap is_constant (sym e) ∙ starts in let y : ◌≡◌ {A = ℕ} 0 1 = cc in omega arith)
+
+pub turns_on : {m m₁ m₂ : L.List ℕ} {s s₁ s₂ : Step} → is_constant (tag_at m₁ s₁) ≡ true → Moves 3 m₁ m₂ s₁ s₂ × LabelMeans m₁ m₂ s₁ s₂ → LabelTurns m s m₁ s₁ → LabelTurns m s m₂ s₂
+turns_on starts one t = record { far = omega (arith, one.0, t.far); rest = λ mₑ r means. t.rest mₑ r (labels_more starts one.1 means) }
+
+pub turns_less : (m m₁ : L.List ℕ) (s s₁ : Step) → is_constant (tag_at m s) ≡ true → Moves 3 m m₁ s s₁ → left m₁ s₁ < left m s
+turns_less m m₁ s s₁ starts far = omega (arith, far, label_there m s starts)
+
+-- a label is refused
+pub turns_refused : {m m₁ m₂ : L.List ℕ} {s s₁ : Step} {n p : ℕ} → is_constant (tag_at m₁ s₁) ≡ true → LabelMeans m₁ m₂ s₁ (Bad n p) → LabelTurns m s m₁ s₁ → LabelsMean m m₂ s (Bad n p)
+turns_refused starts one t = t.rest _ _ (labels_more starts one (λ σ ls. stays))
+
+pub turns_end : {m m₁ mₑ : L.List ℕ} {s s₁ r : Step} → is_constant (tag_at m₁ s₁) ≡ false → Heads COLON m₁ mₑ s₁ r → LabelTurns m s m₁ s₁ → Moves 3 m mₑ s r × LabelsMean m mₑ s r
+turns_end other wrote t = (omega (arith, moved-head COLON _ _ wrote, t.far), t.rest _ _ (labels_end other refl wrote))

@@ -3,7 +3,7 @@ use mathlib.Core.Path.{◌≡◌, refl, sym, ap, ◌∙◌}
 use mathlib.Core.Bool.{Bool, true, false}
 use mathlib.Core.List as L
 use mathlib.Core.List.{[], ◌++◌, append_assoc, append-nil}
-use Prim.Native.Nat.{ℕ}
+use Prim.Native.Nat.{ℕ, ◌-◌, ◌≤◌}
 use native.Mathlib.Nat.{le_refl}
 use native.Mathlib.Omega.{arith}
 use lib.ListN.{length}
@@ -17,13 +17,14 @@ use Rattle.rules.specs.Cells.{cell, end_cell, type_kind, whole_cells, labels_cel
 use Rattle.rules.specs.CoreCells.{held_cells, span_cells, stmt_cells, body_cells, brs_cells, grps_cells}
 use Rattle.theorems.specs.TreePlaces.{ExpIn, StmIn, StmsIn, i_then, BranchesIn, i_else_b, i_branch, GroupsIn, i_else_g, i_group}
 use Rattle.theorems.specs.Spelling.{Spelled}
-use Rattle.walk.specs.Steps.{tag_at, skipped}
+use Rattle.walk.specs.Steps.{tag_at, skipped, left}
 use Rattle.walk.specs.Constants.{is_constant}
-use Rattle.walk.specs.Walking.{Scope, When, Did, Any}
+use Rattle.walk.specs.Walking.{Scope, When, Did, stays, Any}
 use Rattle.walk.specs.Promises.{scope, Marks, HeldMeans, LabelsMean, StatementMeans, ListMeans, BranchesMean, GroupsMean}
-use Rattle.walk.specs.declared.steps.Step.{Step}
-use Rattle.walk.proofs.Follow.{place_of, free_of, Ends, begin, gives, bind, skips, still_skipped}
-use Rattle.walk.proofs.Along.{Heads, still_headed, heads, joins, same, still_done, said, laid, refusal_headed, in_two, then_three, behind_three, behind_four}
+use Rattle.walk.specs.Places.{Step, Bad}
+use Rattle.walk.proofs.Follow.{place_of, free_of, Ends, off, begin, gives, bind, skips, still_skipped, still_done}
+use Rattle.walk.proofs.Refusals.{moved}
+use Rattle.walk.proofs.Along.{Heads, still_headed, heads, joins, same, said, laid, refusal_headed, in_two, then_three, behind_three, behind_four}
 use Rattle.walk.proofs.FirstCells.{elsewhere, no_refusal, no_end, list_ends, list_goes_on, no_else_lem, an_else, a_branch, opens, no_other_lem, an_other, a_group, group-opens}
 use Rattle.walk.proofs.Assignments.{any_expr}
 
@@ -47,6 +48,10 @@ module _ {X : Type 0} {A : Type 0} (σ : Scope) (Holds : X → Type 0) (cells : 
   -- the whole, where the rest ends
   rounds_end : {m mₑ : L.List ℕ} {s r : Step} → Rounds m s → ((x : X) → Rest x mₑ r m s) → (x : X) → Did σ (Holds x) Any encode 0 (cells x) m₁ mₑ s₁ r (rule x)
   rounds_end {mₑ} {r} loop last x = begin (λ given. loop x mₑ r (last x) given)
+
+  -- the loop ended at a refusal
+  rounds_refused : {m : L.List ℕ} {n p : ℕ} → Rounds m (Bad n p) → (x : X) → Did σ (Holds x) Any encode 0 (cells x) m₁ m s₁ (Bad n p) (rule x)
+  rounds_refused loop x = rounds_end loop (λ x v wrap q y h. off refl) x
 
 -- what is given of a list, of branches or of groups is given of their parts
 module _ {N : ℕ} {P : Name → Type 0} where
@@ -107,6 +112,10 @@ module _ (text : L.List ℕ) (count : ℕ) (taken : L.List Bool) (inside : Bool)
       last : (x : Stms) → ListRest vs slots m₁ s₁ x mₑ r m s
       last x v wrap q empty h = laid (sym (append-nil (cell FINISH 0 0))) (heads FINISH FINISH wrote (gives (wrap nil) (λ at free e. tt) (q nil) (le_refl _)))
       last x v wrap q (then z l) h = elsewhere m s tells (list_goes_on z l) (λ e. no_end z (sym e ∙ end)) (refusal_headed m s wrote.0)
+
+  -- a refusal
+  pub list_refused : {m₁ m : L.List ℕ} {s₁ : Step} {n p : ℕ} → ListRounds m₁ s₁ m (Bad n p) → ListMeans text count taken inside m₁ m s₁ (Bad n p)
+  list_refused {m₁} {s₁ = s₁} loop vs slots = rounds_refused _ _ _ _ _ m₁ s₁ (loop vs slots)
 
   -- IF's branches
 
@@ -173,6 +182,10 @@ module _ (text : L.List ℕ) (count : ℕ) (taken : L.List Bool) (inside : Bool)
       last x v wrap q (else_b l) h = elsewhere m s tells (an_else l) not-else (refusal_headed m s wrote.0)
       last x v wrap q (branch c l b) h = elsewhere m s tells (a_branch c l b) not-then (refusal_headed m s wrote.0)
 
+  -- a refusal
+  pub branches_refused : {m₁ m : L.List ℕ} {s₁ : Step} {n p : ℕ} → BranchRounds m₁ s₁ m (Bad n p) → BranchesMean text count taken inside m₁ m s₁ (Bad n p)
+  branches_refused {m₁} {s₁ = s₁} loop vs slots = rounds_refused _ _ _ _ _ m₁ s₁ (loop vs slots)
+
   -- CASE's groups
 
   abbrev GroupIn : L.List ℕ → Groups → Type 0
@@ -238,3 +251,14 @@ module _ (text : L.List ℕ) (count : ℕ) (taken : L.List Bool) (inside : Bool)
       last x v wrap q no_other h = laid (sym (append-nil (cell END_CASE 0 0))) (heads END_CASE FINISH wrote (gives (wrap (other nil)) (λ at free e. tt) (q (other nil)) (le_refl _)))
       last x v wrap q (else_g l) h = elsewhere m s tells (an_other l) not-else (refusal_headed m s wrote.0)
       last x v wrap q (group ls l g) h = elsewhere m s tells (a_group ls l g) (λ e. other_tag (group-opens ls) (sym sees ∙ is) (sym e)) (refusal_headed m s wrote.0)
+
+  -- a refusal
+  pub groups_refused : {m₁ m : L.List ℕ} {s₁ : Step} {n p : ℕ} → GroupRounds m₁ s₁ m (Bad n p) → GroupsMean text count taken inside m₁ m s₁ (Bad n p)
+  groups_refused {m₁} {s₁ = s₁} loop vs slots = rounds_refused _ _ _ _ _ m₁ s₁ (loop vs slots)
+
+  -- behind a refusal nothing is walked
+  pub list_none : {m : L.List ℕ} {n p : ℕ} → (left m (Bad n p) ≤ left m (Bad n p) - 3) × ListMeans text count taken inside m m (Bad n p) (Bad n p)
+  list_none = (moved _ _ _ _ _, λ vs slots x. stays)
+
+  pub groups_none : {m : L.List ℕ} {n p : ℕ} → (left m (Bad n p) ≤ left m (Bad n p) - 3) × GroupsMean text count taken inside m m (Bad n p) (Bad n p)
+  groups_none = (moved _ _ _ _ _, λ vs slots x. stays)

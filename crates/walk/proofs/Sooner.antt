@@ -9,7 +9,7 @@ use borrow.Author.Tests.{eqb-false}
 use Rattle.rules.specs.Kinds.{FINISH}
 use Rattle.walk.specs.Steps.{tag_at, left}
 use Rattle.walk.specs.Constants.{is_constant}
-use Rattle.walk.specs.declared.steps.Step.{Step}
+use Rattle.walk.specs.Places.{Step}
 use Rattle.walk.proofs.Moves.{some-ahead}
 use Rattle.walk.proofs.FirstCells.{opens}
 

@@ -23,14 +23,12 @@ use Rattle.rules.specs.CoreCells.{stmt_cells}
 use Rattle.theorems.specs.TreePlaces.{NameIn, ExpIn, StmIn, i_if, i_case, i_for, i_while, i_repeat, StmsIn, BranchesIn, GroupsIn}
 use Rattle.theorems.specs.Spelling.{Spelled}
 use Rattle.walk.specs.Steps.{tag_at, Moves}
-use Rattle.walk.specs.Walking.{Did, Any}
+use Rattle.walk.specs.Walking.{When, Did, Any}
 use Rattle.walk.specs.Promises.{scope, Marks, HeldMeans, for_head, for_head_cells, AssignmentMeans, LeaveMeans, ForHeadMeans, StatementMeans, ListMeans, BranchesMean, GroupsMean}
-use Rattle.walk.specs.declared.steps.Step.{Step}
-use Rattle.walk.specs.declared.steps.Step.TheVariants.{Bad}
-use Rattle.walk.specs.declared.statements.Target.{Target}
+use Rattle.walk.specs.Places.{Step, Bad, Target}
 use Rattle.walk.proofs.Marks.{one_more_lem}
-use Rattle.walk.proofs.Follow.{begin, gives, bind}
-use Rattle.walk.proofs.Along.{Heads, moved-head, still_headed, heads, joins, follows, still_done, given_more, refusal-stays, said, laid, in_two, in_three}
+use Rattle.walk.proofs.Follow.{begin, gives, bind, still_done}
+use Rattle.walk.proofs.Along.{Heads, moved-head, still_headed, heads, joins, follows, given_more, refusal-stays, said, laid, in_two, in_three}
 use Rattle.walk.proofs.FirstCells.{never, no_refusal, stm_tag, stm_starts, Tagged, assign_t, if_t, case_t, for_t, while_t, repeat_t, tagged}
 use Rattle.walk.proofs.Assignments.{any_slot, any_expr}
 
@@ -177,13 +175,13 @@ module _ (text : L.List ℕ) (count : ℕ) (taken : L.List Bool) (inside : Bool)
 
   -- FOR up to its list, and its list, in which its variable is taken
   pub statement_for : {m₁ m₂ : L.List ℕ} {r : Step} (bounds : Target) {inner : L.List Bool} → k ≡ FOR → Moves 3 m m₁ s bounds.step × ForHeadMeans text count taken m m₁ s bounds
-      → inner ≡ set taken bounds.slot true → length inner ≡ variable_limit → Moves 3 m₁ m₂ bounds.step r × ListMeans text count inner true m₁ m₂ bounds.step r → Moves 3 m m₂ s r × StatementMeans text count taken inside m m₂ s r
+      → inner ≡ set taken bounds.slot true → When bounds.step (length inner ≡ variable_limit) → Moves 3 m₁ m₂ bounds.step r × ListMeans text count inner true m₁ m₂ bounds.step r → Moves 3 m m₂ s r × StatementMeans text count taken inside m m₂ s r
   unfolding stm_cells stmt_cells for_head_cells
   statement_for {m₁} {m₂} {r} bounds {inner} is head marks long body = (omega arith, by_tag FOR is (λ e. omega arith) past)
     where
-      marked : {slots : L.List ℕ} (slot : ℕ) → bounds.slot ≡ slot → slot < variable_limit → Marks taken slots → Marks inner (slot ∷ slots)
-      marked slot e few h =
-          let l = sym (length-set taken bounds.slot true) ∙ ap (λ (w : L.List Bool). length w) (sym marks) ∙ long in
+      marked : length inner ≡ variable_limit → {slots : L.List ℕ} (slot : ℕ) → bounds.slot ≡ slot → slot < variable_limit → Marks taken slots → Marks inner (slot ∷ slots)
+      marked wide slot e few h =
+          let l = sym (length-set taken bounds.slot true) ∙ ap (λ (w : L.List Bool). length w) (sym marks) ∙ wide in
           rw (marks, e) (one_more_lem slot (omega arith) h)
 
       past : (vs : L.List Var) (slots : L.List ℕ) (x : Stm) → Tagged FOR x → Does m₂ r vs slots x
@@ -194,7 +192,7 @@ module _ (text : L.List ℕ) (count : ℕ) (taken : L.List Bool) (inside : Bool)
           bind (record { slot = any_slot; initial = any_expr; last = any_expr; by = pos 0 }) (head.1 vs slots v a e c)
           (λ at free z. let g = for_in (given at free z).0 in (g.0, (g.1.0, (g.1.1.0, (given at free z).1)))) (λ b target.
           bind nil (body.1 vs (b.slot.slot ∷ slots) l)
-          (λ at free z. ((for_in (h₁ at free z).0).1.1.1, marked b.slot.slot (target at free z).slot (target at free z).few (h₁ at free z).1)) (λ w any.
+          (λ at free z. ((for_in (h₁ at free z).0).1.1.1, marked (long at free z) b.slot.slot (target at free z).slot (target at free z).few (h₁ at free z).1)) (λ w any.
           gives (for b.slot.slot b.initial b.last b.by w) (λ at free z. tt) refl (le_refl _))))))
       past vs slots (assign_s _ _) u = elim u [ ]
       past vs slots (if_s _) u = elim u [ ]

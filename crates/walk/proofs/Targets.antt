@@ -15,15 +15,16 @@ use Rattle.rules.specs.Limits.{variable_limit}
 use Rattle.rules.specs.Syntax.{Name}
 use Rattle.rules.specs.Walk.{Var, Slot, find, is_none, known_at, known, assigned}
 use Rattle.rules.specs.Cells.{type_kind, name_cell}
-use Rattle.names.specs.Rows.{spelling, type_of, rows_from, slot_or}
+use Rattle.names.specs.Rows.{spelling, type_of, rows_from}
+use Rattle.walk.proofs.Slots.{slot_or}
 use Rattle.names.specs.Laws.{length_rows, stands_spelled, plainly, length_plainly, find_plainly, found_slot, found_type}
 use Rattle.theorems.specs.TreePlaces.{NameIn}
 use Rattle.theorems.specs.Spelling.{Spelled, letters_at}
 use Rattle.walk.specs.Steps.{cell_at, skipped, checked, Moves}
 use Rattle.walk.specs.Walking.{Ready, When}
 use Rattle.walk.specs.Promises.{scope, Marks, TargetIs, AssignedMeans}
-use Rattle.walk.specs.declared.steps.Step.{Step}
-use Rattle.walk.specs.declared.steps.Cell.{Cell}
+use Rattle.walk.specs.Places.{Step}
+use Rattle.cells.specs.declared.cell.Cell.{Cell}
 use Rattle.walk.proofs.Moves.{moved-skip, moved-check}
 use Rattle.walk.proofs.Follow.{begin, gives, checks, looks, skips, still_checked, still_skipped}
 use Rattle.walk.proofs.Along.{check_held, said, laid, stands}

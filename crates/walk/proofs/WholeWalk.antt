@@ -17,9 +17,9 @@ use Rattle.rules.specs.Walk.{Var, nameless, declare_all, list, walk}
 use Rattle.rules.specs.Cells.{cells, list_cells, tree_cells, refused_lent, parsed}
 use Rattle.rules.specs.CoreCells.{body_cells, variable_cells, program_cells, program_for, program_left, walked}
 use Rattle.rules.specs.Compile.{memory_after}
-use Rattle.rules.specs.Answers.{left, TreeFits}
-use Rattle.rules.specs.declared.Stage.{Stage}
-use Rattle.rules.specs.declared.Stage.TheVariants.{Left, Refused}
+use Rattle.std.specs.Prelude.{Result, Ok as Left, Err as Refused}
+use Rattle.rules.specs.Answers.{fault_number, left, TreeFits}
+use Rattle.rules.specs.declared.compiling.Refusal.{Refusal}
 use Rattle.theorems.specs.Spelling.{Spelled, names-spelled}
 use Rattle.theorems.specs.TreePlaces.{StmsIn, TreeIn}
 use Rattle.names.specs.Rows.{rows_from}
@@ -29,9 +29,8 @@ use Rattle.walk.specs.Walking.{Ready, Any}
 use Rattle.walk.specs.Promises.{scope, Marks, ListMeans}
 use Rattle.walk.specs.Declaring.{var_cells, Amid, midway, Behind, passed, refused, DeclarationsMean}
 use Rattle.walk.specs.Cleared.{Cleared}
-use Rattle.walk.specs.declared.steps.Step.{Step}
-use Rattle.walk.specs.declared.steps.Step.TheVariants.{Ok, Bad}
-use Rattle.walk.specs.declared.declarations.Declared.{Declared}
+use Rattle.walk.specs.Program.{ProgramMeans, ended as ended_at}
+use Rattle.walk.specs.Places.{Step, Ok, Bad, Declared, refused as refused_step}
 use Rattle.walk.proofs.Stores.{take_of_sets}
 use Rattle.walk.proofs.Onward.{After, came, lost, after, refusal-stays}
 use Rattle.walk.proofs.ParsedTree.{program_of, Parsed, tree, was_parsed, tokens-told}
@@ -78,7 +77,7 @@ module _ (text l : List ℕ) (t : Tree) (enough : memory_numbers ≤ length l) (
 -- the program lies behind the tokens; or the refusals are one
 pub data Ended (text lent m : List ℕ) : Step → Type 0 where
   done : {at free : ℕ} (p : Program) → program_for (length lent) text ≡ ok p → slice token_numbers free m ≡ program_cells p → (token_numbers ≤ free) × (free ≤ stack_start) → free ≤ length m → Ended text lent m (Ok at free)
-  failed : {n p : ℕ} → program_for (length lent) text ≡ refuse n p → n ≤ 16 → Ended text lent m (Bad n p)
+  failed : {n p : ℕ} → program_for (length lent) text ≡ refuse n p → (1 ≤ n) × (n ≤ 16) → Ended text lent m (Bad n p)
 
 -- no slot is taken
 no_marks : Marks (replicate 64 false) []
@@ -109,17 +108,21 @@ module _ (text lent m₁ m₂ : List ℕ) (t : Tree) (is : program_for (length l
       body_ended vs (list vs t.body [] false) e refl part (after (list_cells t.body) [] (means vs [] t.body) (h, no_marks) (rw (append-nil (list_cells t.body)) y))
   ends (refused {n} {p} e) means = let r : walk t ≡ refuse n p = rw e in rw (refusal-stays (means [] [] t.body)) (failed (is ∙ r) (walk_refused t n p r))
 
+-- the declarations and the statements were walked, and what was lent is as the walk leaves it
+pub whole : {N : Type 0} {a b : N} {text m x y : List ℕ} {r : Result ℕ Refusal} (between : List ℕ) (names : Declared) (at : ℕ) → DeclarationsMean text m between (Ok token_numbers token_numbers) names
+    → ListMeans text names.count (replicate 64 false) false between y names.step (ended_at at r) → b ≡ a → (a ≡ b → x ≡ y) → ProgramMeans text m x r
+whole between names at d l e k = rw (k (sym e)) (record { between = between; names = names; at = at; declares = d; lists = l })
+
 -- parsing left a tree, which was walked
-pub ended : (text lent : List ℕ) {r : Stage} {m m₁ m₂ : List ℕ} {d : Declared} {end : Step} (count : ℕ) → r ≡ Left count → (left r m ≡ parsed text lent) × TreeFits r
-    → DeclarationsMean text m m₁ (Ok token_numbers token_numbers) d → ListMeans text d.count (replicate 64 false) false m₁ m₂ d.step end → Ended text lent m₂ end
-ended text lent {r} {m} {m₁} {m₂} {d} {end} count e q declares lists = go (was_parsed text lent count e q)
+pub ended : (text lent : List ℕ) {q : Result ℕ Refusal} {r : Result ℕ Refusal} {m m' : List ℕ} (count : ℕ) → q ≡ Left count → (left q m ≡ parsed text lent) × TreeFits q → (w : ProgramMeans text m m' r) → Ended text lent m' (ended_at w.at r)
+ended text lent {q} {r} {m} {m'} count e p w = go (was_parsed text lent count e p)
   where
-    go : Parsed text lent m → Ended text lent m₂ end
+    go : Parsed text lent m → Ended text lent m' (ended_at w.at r)
     go (tree ts t f g short is) =
         let told = tokens-told (length lent) text ts f in
         let places = names-spelled text ts t told.1 g in
         let start = starts text (sets lent 0 (cells ts)) t (rw (length-sets lent 0 (cells ts)) told.0) short places in
-        ends text lent m₁ m₂ t (program_of lent text ts t f g) places.body (declares (list_cells t.body) (declare_all [] t.decls) (rw is start)) lists
+        ends text lent w.between m' t (program_of lent text ts t f g) places.body (w.declares (list_cells t.body) (declare_all [] t.decls) (rw is start)) w.lists
 
 -- the program's end
 pub end_free : {text lent m : List ℕ} {end : Step} (at free : ℕ) → end ≡ Ok at free → Ended text lent m end → (token_numbers ≤ free) × (free ≤ stack_start)
@@ -139,11 +142,6 @@ walk_left {lent} {m} {m'} at free e long (done {free = k} p q part room high) cl
 walk_left at free e long (failed q low) cleared = let z : ◌≡◌ {A = ℕ} 0 1 = cc in absurd (omega arith)
 
 -- or the text is refused
-pub walk-refuses : {text lent m m' : List ℕ} {end : Step} (n p : ℕ) → end ≡ Bad n p → length m ≡ length lent → Ended text lent m end → m' ≡ replicate (length m) 0
-    → left (Refused n p) m' ≡ walked text lent
+pub walk-refuses : {text lent m m' : List ℕ} (e : Refusal) → length m ≡ length lent → Ended text lent m (refused_step e) → m' ≡ replicate (length m) 0 → left (Refused e) m' ≡ walked text lent
 unfolding walked program_left refused_lent memory_after
-walk-refuses n p e long (done q r part room high) zeros = let z : ◌≡◌ {A = ℕ} 0 1 = cc in absurd (omega arith)
-walk-refuses n p e long (failed {n = k} {p = o} q low) zeros =
-    let same : k ≡ n = cc in
-    let place : o ≡ p = cc in
-    rw (q, same, place, ne_eqb n 17 (omega arith), zeros, long)
+walk-refuses e long (failed q low) zeros = rw (q, ne_eqb (fault_number e.fault) 17 (omega arith), zeros, long)

@@ -15,10 +15,8 @@ use Rattle.theorems.specs.Spelling.{Spelled}
 use Rattle.walk.specs.Steps.{kept, tag_at}
 use Rattle.walk.specs.Walking.{Scope, Ready, Did, Any}
 use Rattle.walk.specs.Promises.{scope}
-use Rattle.walk.specs.declared.steps.Step.{Step}
-use Rattle.walk.specs.declared.steps.Step.TheVariants.{Ok, Bad}
-use Rattle.walk.specs.declared.steps.Cell.{Cell}
-use Rattle.walk.specs.declared.declarations.Declared.{Declared}
+use Rattle.walk.specs.Places.{Step, Ok, Bad, Declared}
+use Rattle.cells.specs.declared.cell.Cell.{Cell}
 
 -- the variable that a declaration with this initial value gives
 unfoldable pub declared : Decl → ℤ → Var

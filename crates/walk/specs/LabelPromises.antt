@@ -10,9 +10,7 @@ use Rattle.rules.specs.Cells.{cell, label_cells}
 use Rattle.walk.specs.Steps.{tag_at, skipped, Moves}
 use Rattle.walk.specs.Walking.{Scope, Did, Any}
 use Rattle.walk.specs.Promises.{ConstantMeans}
-use Rattle.walk.specs.declared.steps.Step.{Step}
-use Rattle.walk.specs.declared.steps.Step.TheVariants.{Ok, Bad}
-use Rattle.walk.specs.declared.constants.Literal.{Literal}
+use Rattle.walk.specs.Places.{Step, Ok, Bad, Literal}
 
 -- the high value: the constant behind `..`, or the low one where there is none
 pub data HighIs (m : L.List ℕ) (low : Literal) : Literal → Type 0 where

@@ -1,4 +1,7 @@
+pub mod Places
 pub mod Steps
+pub mod Moving
+pub mod Naming
 pub mod Operands
 pub mod Constants
 pub mod Items
@@ -7,4 +10,5 @@ pub mod Promises
 pub mod LabelPromises
 pub mod Stacking
 pub mod Declaring
+pub mod Program
 pub mod Cleared

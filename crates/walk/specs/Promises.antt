@@ -16,10 +16,7 @@ use Rattle.theorems.specs.TreePlaces.{NameIn, ExpIn, StmIn, StmsIn, BranchesIn, 
 use Rattle.theorems.specs.Spelling.{Spelled}
 use Rattle.walk.specs.Operands.{capped}
 use Rattle.walk.specs.Walking.{Scope, Did, Nothing, Any, nothing}
-use Rattle.walk.specs.declared.steps.Step.{Step}
-use Rattle.walk.specs.declared.constants.Literal.{Literal}
-use Rattle.walk.specs.declared.expressions.Value.{Value}
-use Rattle.walk.specs.declared.statements.Target.{Target}
+use Rattle.walk.specs.Places.{Step, Literal, Value, Target}
 
 abbrev pub scope : L.List ℕ → ℕ → L.List Var → Scope
 scope text count vs = record { text = text; count = count; vars = vs }

@@ -12,10 +12,8 @@ use Rattle.walk.specs.Operands.{capped, pushed, pushed_to, needed}
 use Rattle.walk.specs.Items.{Item, name_i, whole_i, truth_i, paren_i, sign_i, binary_i, item_cell, Operand, Stacked, item_does}
 use Rattle.walk.specs.Walking.{Scope, Did}
 use Rattle.walk.specs.Promises.{scope}
-use Rattle.walk.specs.declared.steps.Step.{Step}
-use Rattle.walk.specs.declared.steps.Cell.{Cell}
-use Rattle.walk.specs.declared.expressions.Inside.{Inside}
-use Rattle.walk.specs.declared.expressions.Value.{Value}
+use Rattle.walk.specs.Places.{Step, Inside, Value}
+use Rattle.cells.specs.declared.cell.Cell.{Cell}
 
 -- the operands lie under the top, the last one highest: two numbers for each, its type and its height
 pub data Stack (m : List ℕ) : ℕ → List Operand → Type 0 where

@@ -2,9 +2,8 @@
 use Rattle.std.specs.Prelude.{Bool, List, ℕ, ◌+◌, ◌-◌, ◌≤◌, leb, length, get_or, take}
 use Rattle.std.proofs.lemmas.List.Edits.{sets}
 use Rattle.rules.specs.Base.{pick}
-use Rattle.walk.specs.declared.steps.Step.{Step}
-use Rattle.walk.specs.declared.steps.Step.TheVariants.{Ok, Bad}
-use Rattle.walk.specs.declared.steps.Cell.{Cell}
+use Rattle.walk.specs.Places.{Step, Ok, Bad}
+use Rattle.cells.specs.declared.cell.Cell.{Cell}
 
 -- where the stack begins
 abbrev pub stack_start : ℕ

@@ -7,8 +7,7 @@ use Rattle.rules.specs.Walk.{Var}
 use Rattle.names.specs.Rows.{rows_from}
 use Rattle.names.specs.Laws.{plainly}
 use Rattle.walk.specs.Steps.{kept}
-use Rattle.walk.specs.declared.steps.Step.{Step}
-use Rattle.walk.specs.declared.steps.Step.TheVariants.{Ok, Bad}
+use Rattle.walk.specs.Places.{Step, Ok, Bad}
 
 -- the text, how many names are entered, and the variables that they are
 pub record Scope : Type 0 where

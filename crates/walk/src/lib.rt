@@ -5,16 +5,18 @@ mod constants;
 mod declarations;
 mod expressions;
 mod operands;
+mod scope;
 mod statements;
 mod steps;
 
-ghost use Rattle.std.specs.Prelude.{◌≡◌};
+ghost use Rattle.std.specs.Prelude.{◌≡◌, length};
 ghost use Rattle.rules.specs.CoreCells.{walked};
 ghost use Rattle.rules.specs.Answers.{left, TreeFits};
 ghost use Rattle.walk.specs.Cleared.{Cleared};
+ghost use Rattle.walk.specs.Program.{ProgramMeans};
 
-use rules::{Limits, Stage};
-use steps::Step;
+use rules::{Limits, Refusal};
+use scope::Scope;
 
 // Only the program stays, which ends where the free numbers begin.
 fn clear_around(memory: &mut [u32], free: usize)
@@ -30,30 +32,41 @@ fn clear_around(memory: &mut [u32], free: usize)
     scan::clear(&mut memory[free..]);
 }
 
+// The program over the tree, from number Limits::TOKEN_NUMBERS on: where it ends.
+fn program(text: &[u8], memory: &mut [u32]) -> Result<usize, Refusal>
+    ensures means { ProgramMeans text.now memory.old memory.new result }
+{
+    let mut walk = steps::Walk {
+        memory,
+        at: Limits::TOKEN_NUMBERS,
+        free: Limits::TOKEN_NUMBERS,
+        top: steps::STACK,
+    };
+    let names = walk.declarations(text)?;
+    let scope = Scope {
+        text,
+        names,
+        taken: [false; 64],
+        inside: false,
+    };
+    walk.list(&scope)?;
+    Ok(walk.free)
+}
+
 // The core program from number Limits::TOKEN_NUMBERS on, and zeros around it.
-pub fn walk(text: &[u8], memory: &mut [u32]) -> Stage
+pub fn walk(text: &[u8], memory: &mut [u32]) -> Result<usize, Refusal>
     ensures means { left result memory.new ≡ walked text.now memory.old }
     ensures fits { TreeFits result }
 {
-    let parsed = parse::parse(text, memory);
-    let Stage::Left(count) = parsed else {
-        return parsed;
-    };
-    let start = Step::Ok(Limits::TOKEN_NUMBERS, Limits::TOKEN_NUMBERS);
-    let d = declarations::declarations(text, memory, start);
-    let step = d.step;
-    let end = statements::list(text, memory, d.count, &[false; 64], false, step);
-    match end {
-        Step::Ok(at, free) => {
+    parse::parse(text, memory)?;
+    match program(text, memory) {
+        Ok(free) => {
             clear_around(memory, free);
-            Stage::Left(free - Limits::TOKEN_NUMBERS)
+            Ok(free - Limits::TOKEN_NUMBERS)
         }
-        Step::Bad(number, place) => {
+        Err(refusal) => {
             scan::clear(memory);
-            Stage::Refused {
-                number,
-                place: place as usize,
-            }
+            Err(refusal)
         }
     }
 }

@@ -1,234 +1,171 @@
 // Statements: names, types and loops around, in the order of the rules.
-ghost use Rattle.std.specs.Prelude.{◌≡◌, true, false, ◌||◌, eqb, get_or, set};
+ghost use Rattle.std.specs.Prelude.{◌≡◌, ◌||◌, eqb};
 ghost use Rattle.rules.specs.Kinds.{COLON};
-ghost use Rattle.walk.specs.Steps.{Moves};
+ghost use Rattle.walk.specs.Places.{at, after, target};
+ghost use Rattle.walk.specs.Moving.{Keeps, Goes, Within};
+ghost use Rattle.walk.specs.Steps.{Moves, tag_at};
 ghost use Rattle.walk.specs.Constants.{is_constant};
 ghost use Rattle.walk.specs.Promises.{AssignedMeans, AssignmentMeans, LeaveMeans, ForHeadMeans, StatementMeans, ListMeans, BranchesMean, GroupsMean};
 
-use super::constants::{by, is_constant, labels};
-use super::expressions::{held, valued};
-use super::steps::{Step, check, head, next, skip, tag, write};
-use rules::Kind;
+use super::constants::is_constant;
+use super::operands::same_type;
+use super::scope::Scope;
+use super::steps::{Walk, kind_of, need};
+use rules::{Fault, Kind, Refusal, Type};
 
-// A variable that is assigned or taken by a FOR: the step behind its cell, its slot, its type, and the place of its name.
-#[derive(Drop)]
+// A variable that is assigned or taken by a FOR: its slot, its type, and the place of its name.
+#[derive(Clone, Copy)]
 pub(crate) struct Target {
-    pub step: Step,
     pub slot: u32,
-    pub kind: u32,
+    pub kind: Type,
     pub place: u32,
 }
 
-// Whether an enclosing FOR has a slot.
-fn is_taken(taken: &[bool], slot: u32) -> bool
-    ensures { result ≡ get_or taken.now slot false }
-{
-    let i = slot as usize;
-    if i < taken.len() {
-        return taken[i];
+impl Walk<'_> {
+    // 7, and 11 if an enclosing FOR has it.
+    fn assigned(&mut self, scope: &Scope) -> Result<Target, Refusal>
+        ensures keeps { Keeps self.old self.new }
+        ensures walks { Moves 3 self.old.memory.now self.old.memory.now (at self.old) (target result self.new).step × AssignedMeans scope.now.text.now scope.now.names scope.now.taken self.old.memory.now (at self.old) (target result self.new) }
+        ensures numbers { self.new.memory.now ≡ self.old.memory.now }
+    {
+        let name = self.next();
+        let slot = self.slot_of(scope, name)?;
+        need(!scope.is_taken(slot), Fault::LoopVariable, name.place)?;
+        Ok(Target {
+            slot,
+            kind: self.type_of(slot),
+            place: name.place,
+        })
     }
-    false
-}
 
-// 7, and 11 if an enclosing FOR has it.
-fn assigned(text: &[u8], memory: &[u32], count: u32, taken: &[bool; 64], s: Step) -> Target
-    ensures fine { Moves 3 memory.now memory.now s result.step }
-    ensures means { AssignedMeans text.now count taken.now memory.now s result }
-{
-    let name = next(memory, s);
-    let behind = skip(memory, s);
-    let slot = names::find(text, memory, count, name.place, name.datum);
-    let known = check(behind, slot < count, 7, name.place);
-    let free = check(known, !is_taken(taken, slot), 11, name.place);
-    Target {
-        step: free,
-        slot,
-        kind: names::kind(memory, slot),
-        place: name.place,
+    fn assignment(&mut self, scope: &Scope) -> Result<(), Refusal>
+        ensures keeps { Keeps self.old self.new }
+        ensures walks { Goes 3 self.old self.new (after result self.new) (AssignmentMeans scope.now.text.now scope.now.names scope.now.taken) }
+    {
+        let name = self.assigned(scope)?;
+        self.write(Kind::Assign, 0, name.slot);
+        self.valued(scope, name.kind, name.place)
     }
-}
 
-fn assignment(text: &[u8], memory: &mut [u32], count: u32, taken: &[bool; 64], s: Step) -> Step
-    ensures fine { Moves 3 memory.old memory.new s result }
-    ensures means { AssignmentMeans text.now count taken.now memory.old memory.new s result }
-{
-    let name = assigned(text, memory, count, taken, s);
-    let free = name.step;
-    let written = write(memory, free, Kind::ASSIGN, 0, name.slot);
-    valued(text, memory, count, written, name.kind, name.place)
-}
-
-// A FOR up to its list: its variable, its bounds, its step.
-fn for_head(text: &[u8], memory: &mut [u32], count: u32, taken: &[bool; 64], s: Step) -> Target
-    ensures fine { Moves 3 memory.old memory.new s result.step }
-    ensures means { ForHeadMeans text.now count taken.now memory.old memory.new s result }
-{
-    let name = assigned(text, memory, count, taken, s);
-    let free = name.step;
-    let typed = check(free, name.kind == Kind::DINT, 8, name.place);
-    let written = write(memory, typed, Kind::FOR, 0, name.slot);
-    let initial = held(text, memory, count, written, Kind::DINT, 0);
-    let last = held(text, memory, count, initial, Kind::DINT, 1);
-    Target {
-        step: by(memory, last),
-        slot: name.slot,
-        kind: name.kind,
-        place: name.place,
+    // A FOR up to its list: its variable, its bounds, its step.
+    fn for_head(&mut self, scope: &Scope) -> Result<Target, Refusal>
+        ensures keeps { Keeps self.old self.new }
+        ensures walks { Moves 3 self.old.memory.now self.new.memory.now (at self.old) (target result self.new).step × ForHeadMeans scope.now.text.now scope.now.names scope.now.taken self.old.memory.now self.new.memory.now (at self.old) (target result self.new) }
+    {
+        let name = self.assigned(scope)?;
+        need(
+            same_type(name.kind, Type::Dint),
+            Fault::WrongType,
+            name.place,
+        )?;
+        self.write(Kind::For, 0, name.slot);
+        self.held(scope, Type::Dint, 0)?;
+        self.held(scope, Type::Dint, 1)?;
+        self.by()?;
+        Ok(name)
     }
-}
 
-// The slots that are taken with one more.
-fn with_slot(taken: [bool; 64], slot: u32) -> [bool; 64]
-    ensures { result ≡ set taken slot true }
-{
-    let mut inner = taken;
-    let i = slot as usize;
-    if i < 64 {
-        inner[i] = true;
+    // EXIT: 12 where no loop is around.
+    fn leave(&mut self, scope: &Scope) -> Result<(), Refusal>
+        ensures keeps { Keeps self.old self.new }
+        ensures walks { Goes 3 self.old self.new (after result self.new) (LeaveMeans scope.now.inside) }
+    {
+        let word = self.next();
+        need(scope.inside, Fault::ExitOutside, word.place)?;
+        self.write(Kind::Exit, 0, 0);
+        Ok(())
     }
-    inner
-}
 
-// The slots that are taken within a FOR.
-fn with_taken(taken: &[bool; 64], slot: u32) -> [bool; 64]
-    ensures { result ≡ set taken.now slot true }
-{
-    let outer = *taken;
-    with_slot(outer, slot)
-}
-
-// EXIT: 12 where no loop is around.
-fn leave(memory: &mut [u32], inside: bool, s: Step) -> Step
-    ensures fine { Moves 3 memory.old memory.new s result }
-    ensures means { LeaveMeans inside memory.old memory.new s result }
-{
-    let word = next(memory, s);
-    let looped = check(skip(memory, s), inside, 12, word.place);
-    write(memory, looped, Kind::EXIT, 0, 0)
-}
-
-// IF's branches, and ELSE.
-#[cycle(branches_groups_list_statement)]
-fn branches(
-    text: &[u8],
-    memory: &mut [u32],
-    count: u32,
-    taken: &[bool; 64],
-    inside: bool,
-    s: Step,
-) -> Step
-    ensures fine { Moves 3 memory.old memory.new s result }
-    ensures means { BranchesMean text.now count taken.now inside memory.old memory.new s result }
-{
-    let mut r = s;
-    while tag(memory, r) == Kind::THEN {
-        let word = head(memory, r, Kind::THEN);
-        let condition = held(text, memory, count, word, Kind::BOOL, 0);
-        r = list(text, memory, count, taken, inside, condition);
+    // Whether a group starts here: with a constant, or with the cell behind its labels if there are none.
+    fn starts_group(&self) -> bool
+        ensures { result ≡ (eqb (tag_at self.now.memory.now (at self.now)) COLON || is_constant (tag_at self.now.memory.now (at self.now))) }
+    {
+        self.is_at(Kind::Colon) || is_constant(self.ahead().tag)
     }
-    if tag(memory, r) == Kind::ELSE {
-        let word = head(memory, r, Kind::ELSE);
-        return list(text, memory, count, taken, inside, word);
-    }
-    head(memory, r, Kind::END_IF)
-}
 
-// Whether a group starts here: with a constant, or with the cell behind its labels if there are none.
-fn starts_group(tag: u32) -> bool
-    ensures { result ≡ (eqb tag COLON || is_constant tag) }
-{
-    if tag == Kind::COLON {
-        return true;
-    }
-    is_constant(tag)
-}
-
-// CASE's groups, and ELSE, which may be missing: the code is the same.
-#[cycle(branches_groups_list_statement)]
-fn groups(
-    text: &[u8],
-    memory: &mut [u32],
-    count: u32,
-    taken: &[bool; 64],
-    inside: bool,
-    s: Step,
-) -> Step
-    ensures fine { Moves 3 memory.old memory.new s result }
-    ensures means { GroupsMean text.now count taken.now inside memory.old memory.new s result }
-{
-    let mut r = s;
-    while starts_group(tag(memory, r)) {
-        let closed = labels(memory, r);
-        r = list(text, memory, count, taken, inside, closed);
-    }
-    if tag(memory, r) == Kind::ELSE {
-        let word = skip(memory, r);
-        return list(text, memory, count, taken, inside, word);
-    }
-    head(memory, r, Kind::FINISH)
-}
-
-// A statement; inside: a loop is around.
-#[cycle(branches_groups_list_statement)]
-fn statement(
-    text: &[u8],
-    memory: &mut [u32],
-    count: u32,
-    taken: &[bool; 64],
-    inside: bool,
-    s: Step,
-) -> Step
-    ensures fine { Moves 3 memory.old memory.new s result }
-    ensures means { StatementMeans text.now count taken.now inside memory.old memory.new s result }
-{
-    let kind = tag(memory, s);
-    match kind {
-        Kind::ASSIGN => assignment(text, memory, count, taken, s),
-        Kind::IF => {
-            let word = head(memory, s, Kind::IF);
-            branches(text, memory, count, taken, inside, word)
+    // IF's branches, and ELSE.
+    #[cycle(branches_groups_list_statement)]
+    fn branches(&mut self, scope: &Scope) -> Result<(), Refusal>
+        ensures keeps { Keeps self.old self.new }
+        ensures walks { Goes 3 self.old self.new (after result self.new) (Within scope.now BranchesMean) }
+    {
+        while self.is_at(Kind::Then) {
+            self.head(Kind::Then);
+            self.held(scope, Type::Bool, 0)?;
+            self.list(scope)?;
         }
-        Kind::CASE => {
-            let word = head(memory, s, Kind::CASE);
-            let selector = held(text, memory, count, word, Kind::DINT, 0);
-            groups(text, memory, count, taken, inside, selector)
+        if self.is_at(Kind::Else) {
+            self.head(Kind::Else);
+            return self.list(scope);
         }
-        Kind::FOR => {
-            let bounds = for_head(text, memory, count, taken, s);
-            let inner = with_taken(taken, bounds.slot);
-            let head = bounds.step;
-            list(text, memory, count, &inner, true, head)
-        }
-        Kind::WHILE => {
-            let word = head(memory, s, Kind::WHILE);
-            let condition = held(text, memory, count, word, Kind::BOOL, 0);
-            list(text, memory, count, taken, true, condition)
-        }
-        Kind::REPEAT => {
-            let word = head(memory, s, Kind::REPEAT);
-            let body = list(text, memory, count, taken, true, word);
-            held(text, memory, count, body, Kind::BOOL, 0)
-        }
-        _ => leave(memory, inside, s),
+        self.head(Kind::EndIf);
+        Ok(())
     }
-}
 
-// A list, up to the cell that closes it.
-#[cycle(branches_groups_list_statement)]
-pub(crate) fn list(
-    text: &[u8],
-    memory: &mut [u32],
-    count: u32,
-    taken: &[bool; 64],
-    inside: bool,
-    s: Step,
-) -> Step
-    ensures fine { Moves 3 memory.old memory.new s result }
-    ensures means { ListMeans text.now count taken.now inside memory.old memory.new s result }
-{
-    let mut r = s;
-    while tag(memory, r) != Kind::FINISH {
-        r = statement(text, memory, count, taken, inside, r);
+    // CASE's groups, and ELSE, which may be missing: the code is the same.
+    #[cycle(branches_groups_list_statement)]
+    fn groups(&mut self, scope: &Scope) -> Result<(), Refusal>
+        ensures keeps { Keeps self.old self.new }
+        ensures walks { Goes 3 self.old self.new (after result self.new) (Within scope.now GroupsMean) }
+    {
+        while self.starts_group() {
+            self.labels()?;
+            self.list(scope)?;
+        }
+        if self.is_at(Kind::Else) {
+            self.skip();
+            return self.list(scope);
+        }
+        self.head(Kind::Finish);
+        Ok(())
     }
-    head(memory, r, Kind::FINISH)
+
+    // A statement.
+    #[cycle(branches_groups_list_statement)]
+    fn statement(&mut self, scope: &Scope) -> Result<(), Refusal>
+        ensures keeps { Keeps self.old self.new }
+        ensures walks { Goes 3 self.old self.new (after result self.new) (Within scope.now StatementMeans) }
+    {
+        match kind_of(self.ahead().tag) {
+            Kind::Assign => self.assignment(scope),
+            Kind::If => {
+                self.head(Kind::If);
+                self.branches(scope)
+            }
+            Kind::Case => {
+                self.head(Kind::Case);
+                self.held(scope, Type::Dint, 0)?;
+                self.groups(scope)
+            }
+            Kind::For => {
+                let bounds = self.for_head(scope)?;
+                self.list(&scope.taking(bounds.slot))
+            }
+            Kind::While => {
+                self.head(Kind::While);
+                self.held(scope, Type::Bool, 0)?;
+                let body = scope.in_loop();
+                self.list(&body)
+            }
+            Kind::Repeat => {
+                self.head(Kind::Repeat);
+                self.list(&scope.in_loop())?;
+                self.held(scope, Type::Bool, 0)
+            }
+            _ => self.leave(scope),
+        }
+    }
+
+    // A list, up to the cell that closes it.
+    #[cycle(branches_groups_list_statement)]
+    pub fn list(&mut self, scope: &Scope) -> Result<(), Refusal>
+        ensures keeps { Keeps self.old self.new }
+        ensures walks { Goes 3 self.old self.new (after result self.new) (Within scope.now ListMeans) }
+    {
+        while !self.is_at(Kind::Finish) {
+            self.statement(scope)?;
+        }
+        self.head(Kind::Finish);
+        Ok(())
+    }
 }

@@ -1,126 +1,120 @@
 // Where the walk stands in the tree, and what it writes of the core program over the part that it has read.
-ghost use Rattle.std.specs.Prelude.{◌≡◌, ◌+◌, leb, length, get_or};
+ghost use Rattle.std.specs.Prelude.{◌≡◌, ◌+◌, ◌≤◌, min, IsTrue, eqb, leb, length};
+ghost use Rattle.rules.specs.KindNumbers.{kind_number};
 ghost use Rattle.rules.specs.Cells.{cell};
-ghost use Rattle.walk.specs.Steps.{kept, cell_at, tag_at, skipped, refused_at, checked, extended, written};
+ghost use Rattle.walk.specs.Places.{at};
+ghost use Rattle.walk.specs.Steps.{stack_start, kept, cell_at, tag_at, skipped};
+ghost use Rattle.walk.specs.Moving.{Tells, Skips, Writes, tested};
 
-#[derive(Clone, Copy)]
-pub(crate) enum Step {
-    // The next number of the tree, and the first free number of the core program.
-    Ok(usize, usize),
-    // The number of the list, and the place.
-    Bad(u32, u32),
-}
-
-#[derive(Drop)]
-pub(crate) struct Cell {
-    pub tag: u32,
-    pub place: u32,
-    pub datum: u32,
-}
+use cells::Cell;
+use rules::{Fault, Kind, Limits, Refusal};
 
 // Behind the tree the operands of an expression are stacked.
-pub(crate) const STACK: usize = 147465;
+pub(crate) const STACK: usize = Limits::TOKEN_NUMBERS + Limits::TREE_NUMBERS;
 
-// Whether a cell at i ends before the stack.
-fn has_cell(memory: &[u32], i: usize) -> bool
-    ensures { result ≡ leb (i + 3) (length (kept memory.now)) }
+// The kind with this number; the end's where no kind has it.
+pub(crate) fn kind_of(tag: u32) -> Kind
+    ensures { Tells tag result }
 {
-    let end = if memory.len() < STACK {
-        memory.len()
-    } else {
-        STACK
-    };
-    if end < 3 {
-        return false;
+    match Kind::try_from(tag) {
+        Ok(kind) => kind,
+        Err(_) => Kind::Finish,
     }
-    i <= end - 3
-}
-
-// The cell ahead; zeros behind the last one and after a refusal.
-pub(crate) fn next(memory: &[u32], s: Step) -> Cell
-    ensures { result ≡ cell_at memory.now s }
-{
-    let Step::Ok(at, free) = s else {
-        return Cell {
-            tag: 0,
-            place: 0,
-            datum: 0,
-        };
-    };
-    if has_cell(memory, at) {
-        return Cell {
-            tag: memory[at],
-            place: memory[at + 1],
-            datum: memory[at + 2],
-        };
-    }
-    Cell {
-        tag: 0,
-        place: 0,
-        datum: 0,
-    }
-}
-
-pub(crate) fn tag(memory: &[u32], s: Step) -> u32
-    ensures { result ≡ tag_at memory.now s }
-{
-    let cell = next(memory, s);
-    cell.tag
-}
-
-// Past the cell ahead.
-pub(crate) fn skip(memory: &[u32], s: Step) -> Step
-    ensures { result ≡ skipped memory.now s }
-{
-    let Step::Ok(at, free) = s else {
-        return s;
-    };
-    if has_cell(memory, at) {
-        return Step::Ok(at + 3, free);
-    }
-    Step::Ok(STACK, free)
-}
-
-// The first refusal stays.
-pub(crate) fn refuse(s: Step, number: u32, place: u32) -> Step
-    ensures { result ≡ refused_at number place s }
-{
-    let Step::Ok(at, free) = s else {
-        return s;
-    };
-    Step::Bad(number, place)
 }
 
 // Goes on if the test holds.
-pub(crate) fn check(s: Step, holds: bool, number: u32, place: u32) -> Step
-    ensures { result ≡ checked holds number place s }
+#[tactic(auto, unfolding(crate::specs::Moving::tested))]
+pub(crate) fn need(holds: bool, fault: Fault, place: u32) -> Result<(), Refusal>
+    ensures { result ≡ tested holds fault place }
 {
     if holds {
-        return s;
+        return Ok(());
     }
-    refuse(s, number, place)
+    Err(Refusal {
+        fault,
+        place: place as usize,
+    })
 }
 
-// A cell behind what is written.
-pub(crate) fn write(memory: &mut [u32], s: Step, tag: u32, place: u32, datum: u32) -> Step
-    ensures { (result ≡ extended memory.old s) × (memory.new ≡ written memory.old s (cell tag place datum)) }
-{
-    let Step::Ok(at, free) = s else {
-        return s;
-    };
-    if has_cell(memory, free) {
-        memory[free] = tag;
-        memory[free + 1] = place;
-        memory[free + 2] = datum;
-        return Step::Ok(at, free + 3);
-    }
-    s
+#[derive(Drop)]
+pub(crate) struct Walk<'a> {
+    pub memory: &'a mut [u32],
+    // The next number of the tree.
+    pub at: usize,
+    // The first free number of the core program.
+    pub free: usize,
+    // Where the stack of operands ends.
+    pub top: usize,
 }
 
-// The cell ahead is written with this tag alone.
-pub(crate) fn head(memory: &mut [u32], s: Step, tag: u32) -> Step
-    ensures { (result ≡ extended memory.old (skipped memory.old s)) × (memory.new ≡ written memory.old (skipped memory.old s) (cell tag 0 0)) }
-{
-    let behind = skip(memory, s);
-    write(memory, behind, tag, 0, 0)
+impl Walk<'_> {
+    // Whether a cell at i ends before the stack.
+    fn has_cell(&self, i: usize) -> bool
+        ensures fits { result ≡ leb (i + 3) (length (kept self.now.memory.now)) }
+        ensures room { IsTrue result → i + 3 ≤ min stack_start (length self.now.memory.now) }
+    {
+        let end = self.memory.len().min(STACK);
+        3 <= end && i <= end - 3
+    }
+
+    // The cell ahead; zeros behind the last one.
+    pub fn ahead(&self) -> Cell
+        ensures { result ≡ cell_at self.now.memory.now (at self.now) }
+    {
+        let i = self.at;
+        if self.has_cell(i) {
+            return Cell {
+                tag: self.memory[i],
+                place: self.memory[i + 1],
+                datum: self.memory[i + 2],
+            };
+        }
+        Cell::default()
+    }
+
+    // Whether a cell of this kind is ahead.
+    pub fn is_at(&self, kind: Kind) -> bool
+        ensures { result ≡ eqb (tag_at self.now.memory.now (at self.now)) (kind_number kind) }
+    {
+        self.ahead().is(kind)
+    }
+
+    // Past the cell ahead.
+    pub fn skip(&mut self)
+        ensures { Skips self.old self.new }
+    {
+        let i = self.at;
+        self.at = if self.has_cell(i) { i + 3 } else { STACK };
+    }
+
+    // The cell ahead, and past it.
+    pub fn next(&mut self) -> Cell
+        ensures cell { result ≡ cell_at self.old.memory.now (at self.old) }
+        ensures past { Skips self.old self.new }
+    {
+        let cell = self.ahead();
+        self.skip();
+        cell
+    }
+
+    // A cell behind what is written.
+    pub fn write(&mut self, kind: Kind, place: u32, datum: u32)
+        ensures { Writes self.old (at self.old) (cell (kind_number kind) place datum) self.new }
+    {
+        let i = self.free;
+        if self.has_cell(i) {
+            self.memory[i] = kind.number();
+            self.memory[i + 1] = place;
+            self.memory[i + 2] = datum;
+            self.free = i + 3;
+        }
+    }
+
+    // The cell ahead is written with this kind alone.
+    pub fn head(&mut self, kind: Kind)
+        ensures { Writes self.old (skipped self.old.memory.now (at self.old)) (cell (kind_number kind) 0 0) self.new }
+    {
+        self.skip();
+        self.write(kind, 0, 0);
+    }
 }

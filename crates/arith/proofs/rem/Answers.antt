@@ -1,23 +1,13 @@
-use mathlib.Core.Path.{ap, ◌∙◌}
-use lib.Signed.{rem_z}
-use mir.Syntax.{w32}
-use mir.Val.{of_z}
-use Rattle.rules.specs.Numbers.{dint}
-use Rattle.rules.specs.Meaning.{fit}
-use Rattle.arith.proofs.Reach.{quot_fits, rem_fits, op_is, zero_bits, by_zero_rem, not_zero, wide_fits, rem_is}
+use native.Mathlib.Omega.{arith}
+use mir.Facts.{to_z-of_z}
+use Rattle.arith.proofs.Fitting.{by_zero, left_over}
 use Rattle.arith.proofs.rem.Goals as goal
 
 pub returns-then-b-eq0 : goal.returns-then-b-eq0
-returns-then-b-eq0 c = by_zero_rem _ _ (zero_bits c.ranges.b c.if-b-eq0.true)
+returns-then-b-eq0 c = (by_zero _ _ c.ranges.b c.if-b-eq0.true).1
 
-pub nonzero_rem-wide : goal.nonzero_rem-wide
-nonzero_rem-wide c = (
-  not_zero c.wide-2.ensures.1 c.ranges.b c.wide-2.ensures.0 c.if-b-eq0.false,
-  quot_fits _ _ (wide_fits c.wide.ensures.1) (wide_fits c.wide-2.ensures.1),
-)
+pub wrapping_rem-requires : goal.wrapping_rem-requires
+wrapping_rem-requires c = rw (to_z-of_z c.ranges.b) (omega (arith, c.if-b-eq0.false))
 
 pub returns : goal.returns
-returns c =
-    c.narrow.ensures
-    ∙ ap (fit dint) (op_is rem_z rem_fits c.ranges.a c.ranges.b c.wide.ensures.0 c.wide-2.ensures.0)
-    ∙ rem_is _ _ (λ n. c.if-b-eq0.false (ap (of_z w32) n))
+returns c = left_over _ _ c.if-b-eq0.false c.ranges.a (rw (to_z-of_z c.ranges.a, to_z-of_z c.ranges.b) at c.wrapping_rem.ensures)

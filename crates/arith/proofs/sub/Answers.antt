@@ -1,13 +1,10 @@
-use mathlib.Core.Path.{ap, ◌∙◌}
-use lib.IntN.{◌-ℤ◌}
-use Rattle.rules.specs.Numbers.{dint}
-use Rattle.rules.specs.Meaning.{fit, binop}
-use Rattle.arith.proofs.Reach.{sub_fits, wide_fits, op_is}
+use mathlib.Core.Path.{◌∙◌}
+use Rattle.rules.specs.Core.{Sub}
+use Rattle.rules.specs.Meaning.{binop}
+use Rattle.arith.proofs.Reach.{two}
+use Rattle.arith.proofs.Fitting.{answered}
 use Rattle.arith.proofs.sub.Goals as goal
-
-pub overflow_sub-wide : goal.overflow_sub-wide
-overflow_sub-wide c = sub_fits _ _ (wide_fits c.wide.ensures.1) (wide_fits c.wide-2.ensures.1)
 
 pub returns : goal.returns
 unfolding binop
-returns c = c.narrow.ensures ∙ ap (fit dint) (op_is ◌-ℤ◌ sub_fits c.ranges.a c.ranges.b c.wide.ensures.0 c.wide-2.ensures.0)
+returns c = answered _ _ c.checked_sub.ensures c.ok_or.ensures.value ∙ two (binop Sub) c.ranges.a c.ranges.b

@@ -1,5 +1,5 @@
 -- `codes::read` meets its contract: an arm rewrites with its key, then with its operands.
-use mathlib.Core.Path.{◌≡◌, sym, ◌∙◌}
+use mathlib.Core.Path.{sym, ◌∙◌}
 use Prim.Native.Nat.{◌≤◌}
 use native.Mathlib.Omega.{arith}
 use lib.ListN.{get_or-eq_default}
@@ -7,120 +7,60 @@ use mir.Syntax.{w32}
 use mir.Facts.{to_z-of_z}
 use borrow.Author.Rules.{sfits_of}
 use Rattle.rules.specs.Codes.{SPAN, FIRST, NEXT, BAD, readers, decode_op}
-use Rattle.codes.proofs.Bytes.{get1_at, get2_at, get4_at, pair_at, loop_at}
+use Rattle.codes.proofs.Bytes.{byte_is, word_is, value_is, pair_is, loop_is}
 use Rattle.codes.proofs.read.Goals as goal
-
-pub value-requires : goal.value-requires
-value-requires c = rw c.in-2.is at c.requires
-
-pub bounds-s-at : goal.bounds-s-at
-bounds-s-at c = omega (arith, rw c.in-3.is at c.requires)
-
-pub bounds-s-at-in-4 : goal.bounds-s-at-in-4
-bounds-s-at-in-4 c = omega (arith, rw c.in-4.is at c.requires)
-
-pub word-requires : goal.word-requires
-word-requires c = rw c.in-21.is at c.requires
-
-pub word-requires-in-22 : goal.word-requires-in-22
-word-requires-in-22 c = rw c.in-22.is at c.requires
-
-pub value-requires-in-23 : goal.value-requires-in-23
-value-requires-in-23 c = omega (arith, rw c.in-23.is at c.requires)
-
-pub value-requires-in-23-2 : goal.value-requires-in-23-2
-value-requires-in-23-2 c = omega (arith, rw c.in-23.is at c.requires)
-
-pub word-requires-in-24 : goal.word-requires-in-24
-word-requires-in-24 c = rw c.in-24.is at c.requires
-
-pub bounds-s-at-in-26 : goal.bounds-s-at-in-26
-bounds-s-at-in-26 c = omega (arith, rw c.in-26.is at c.requires)
-
-pub counted-requires : goal.counted-requires
-counted-requires c = rw c.in-27.is at c.requires
-
-pub counted-requires-in-28 : goal.counted-requires-in-28
-counted-requires-in-28 c = rw c.in-28.is at c.requires
-
-pub operator_of-requires : goal.operator_of-requires
-operator_of-requires c = (omega arith, omega arith)
-
-pub returns-in-1 : goal.returns-in-1
-unfolding decode_op readers
-returns-in-1 c = rw c.in-1.is
 
 pub returns-in-2 : goal.returns-in-2
 unfolding decode_op readers
 returns-in-2 c =
     let v = to_z-of_z {w = w32} (sfits_of c.value.type_inv) ∙ c.value.ensures in
-    rw (c.in-2.is, v) (sym (get4_at _ _ (rw c.in-2.is at c.requires) _))
+    rw (c.in-2.is, v) (sym (value_is _ (rw c.in-2.is at c.requires) _))
 
 pub returns-in-3 : goal.returns-in-3
 unfolding decode_op readers
-returns-in-3 c = rw (c.in-3.is, c.wide.ensures.0) (sym (get1_at _ _ (rw c.in-3.is at c.requires) _))
+returns-in-3 c = rw (c.in-3.is, c.from.ensures) (sym (byte_is _ (rw c.in-3.is at c.requires) _))
 
 pub returns-in-4 : goal.returns-in-4
 unfolding decode_op readers
-returns-in-4 c = rw (c.in-4.is, c.wide-in-4.ensures.0) (sym (get1_at _ _ (rw c.in-4.is at c.requires) _))
-
-pub returns-in-5 : goal.returns-in-5
-unfolding decode_op readers
-returns-in-5 c = rw c.in-5.is
-
-pub returns-in-6 : goal.returns-in-6
-unfolding decode_op readers
-returns-in-6 c = rw c.in-6.is
+returns-in-4 c = rw (c.in-4.is, c.from-in-4.ensures) (sym (byte_is _ (rw c.in-4.is at c.requires) _))
 
 pub returns-in-21 : goal.returns-in-21
 unfolding decode_op readers
-returns-in-21 c = rw (c.in-21.is, c.word.ensures.0) (sym (get2_at _ _ (rw c.in-21.is at c.requires) _))
+returns-in-21 c = rw (c.in-21.is, c.word.ensures.0) (sym (word_is _ (rw c.in-21.is at c.requires) _))
 
 pub returns-in-22 : goal.returns-in-22
 unfolding decode_op readers
-returns-in-22 c = rw (c.in-22.is, c.word-in-22.ensures.0) (sym (get2_at _ _ (rw c.in-22.is at c.requires) _))
+returns-in-22 c = rw (c.in-22.is, c.word-in-22.ensures.0) (sym (word_is _ (rw c.in-22.is at c.requires) _))
 
 pub returns-in-23 : goal.returns-in-23
 unfolding decode_op readers
 returns-in-23 c =
     let low = to_z-of_z {w = w32} (sfits_of c.value-in-23.type_inv) ∙ c.value-in-23.ensures in
     let high = to_z-of_z {w = w32} (sfits_of c.value-in-23-2.type_inv) ∙ c.value-in-23-2.ensures in
-    rw (c.in-23.is, low, high) (sym (pair_at _ _ (rw c.in-23.is at c.requires) SPAN))
+    rw (c.in-23.is, low, high) (sym (pair_is _ (rw c.in-23.is at c.requires) SPAN))
 
 pub returns-in-24 : goal.returns-in-24
 unfolding decode_op readers
-returns-in-24 c = rw (c.in-24.is, c.word-in-24.ensures.0) (sym (get2_at _ _ (rw c.in-24.is at c.requires) _))
-
-pub returns-in-25 : goal.returns-in-25
-unfolding decode_op readers
-returns-in-25 c = rw c.in-25.is
+returns-in-24 c = rw (c.in-24.is, c.word-in-24.ensures.0) (sym (word_is _ (rw c.in-24.is at c.requires) _))
 
 pub returns-in-26 : goal.returns-in-26
 unfolding decode_op readers
-returns-in-26 c = rw (c.in-26.is, c.wide-in-26.ensures.0) (sym (get1_at _ _ (rw c.in-26.is at c.requires) _))
+returns-in-26 c = rw (c.in-26.is, c.from-in-26.ensures) (sym (byte_is _ (rw c.in-26.is at c.requires) _))
 
 pub returns-in-27 : goal.returns-in-27
 unfolding decode_op readers
 returns-in-27 c =
     let e = c.counted.ensures in
-    rw (c.in-27.is, e.0, e.1.0, e.1.1.0, e.1.1.1) (sym (loop_at _ _ (rw c.in-27.is at c.requires) FIRST))
+    rw (c.in-27.is, e.0, e.1, e.2, e.3) (sym (loop_is _ (rw c.in-27.is at c.requires) FIRST))
 
 pub returns-in-28 : goal.returns-in-28
 unfolding decode_op readers
 returns-in-28 c =
     let e = c.counted-in-28.ensures in
-    rw (c.in-28.is, e.0, e.1.0, e.1.1.0, e.1.1.1) (sym (loop_at _ _ (rw c.in-28.is at c.requires) NEXT))
-
-pub returns-in-29 : goal.returns-in-29
-unfolding decode_op readers
-returns-in-29 c = rw c.in-29.is
+    rw (c.in-28.is, e.0, e.1, e.2, e.3) (sym (loop_is _ (rw c.in-28.is at c.requires) NEXT))
 
 pub returns-in-7-to-20 : goal.returns-in-7-to-20
 returns-in-7-to-20 c = c.operator_of.ensures _
-
-pub returns-in_default : goal.returns-in_default
-unfolding decode_op readers
-returns-in_default c = let e : c.args.code ≡ 0 = omega arith in rw e
 
 pub returns-in_default-2 : goal.returns-in_default-2
 unfolding decode_op readers

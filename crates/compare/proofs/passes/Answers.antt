@@ -1,8 +1,9 @@
-use mathlib.Core.Path.{◌∙◌}
 use mir.Facts.{to_z-of_z}
-use Rattle.arith.proofs.Reach.{wide_back}
-use Rattle.compare.proofs.Passing.{passes_same}
+use Rattle.compare.proofs.Passing.{up, down}
 use Rattle.compare.proofs.passes.Goals as goal
 
-pub returns : goal.returns
-returns c = c.passes_wide.ensures ∙ passes_same (to_z-of_z c.ranges.step) (wide_back c.ranges.v c.wide.ensures.0) (to_z-of_z c.ranges.last)
+pub returns-then-step-ge0 : goal.returns-then-step-ge0
+returns-then-step-ge0 c = rw (to_z-of_z c.ranges.last, to_z-of_z c.ranges.v) (up _ _ _ (rw (to_z-of_z c.ranges.step) at c.if-step-ge0.true))
+
+pub returns-else-step-ge0 : goal.returns-else-step-ge0
+returns-else-step-ge0 c = rw (to_z-of_z c.ranges.last, to_z-of_z c.ranges.v) (down _ _ _ (rw (to_z-of_z c.ranges.step) at c.if-step-ge0.false))

@@ -1,18 +1,18 @@
-use mathlib.Core.Path.{◌≡◌, sym, ◌∙◌}
+use mathlib.Core.Path.{◌≡◌}
 use mathlib.Core.Bool.{true, false}
 use lib.Signed.{le_z}
+use mir.Facts.{to_z-of_z}
 use Rattle.rules.specs.Numbers.{between}
-use Rattle.arith.proofs.Reach.{two}
 use Rattle.compare.proofs.within.Goals as goal
 
-pub returns-then-le : goal.returns-then-le
+pub returns-then-lowest-z : goal.returns-then-lowest-z
 unfolding between
-returns-then-le c =
-    let e : le_z c.args.lowest c.args.z ≡ true = sym (c.le.ensures ∙ two le_z c.ranges.lowest c.ranges.z) ∙ c.if-le.true in
-    rw e (c.le-then-le.ensures ∙ two le_z c.ranges.z c.ranges.highest)
+returns-then-lowest-z c =
+    let e : le_z c.args.lowest c.args.z ≡ true = rw (to_z-of_z c.ranges.lowest, to_z-of_z c.ranges.z) at c.if-lowest-z.true in
+    rw (e, to_z-of_z c.ranges.z, to_z-of_z c.ranges.highest)
 
-pub returns-else-le : goal.returns-else-le
+pub returns-else-lowest-z : goal.returns-else-lowest-z
 unfolding between
-returns-else-le c =
-    let e : le_z c.args.lowest c.args.z ≡ false = sym (c.le.ensures ∙ two le_z c.ranges.lowest c.ranges.z) ∙ c.if-le.false in
-    rw e
+returns-else-lowest-z c =
+    let e : le_z c.args.lowest c.args.z ≡ false = rw (to_z-of_z c.ranges.lowest, to_z-of_z c.ranges.z) at c.if-lowest-z.false in
+    rw (to_z-of_z c.ranges.lowest, to_z-of_z c.ranges.z, e)

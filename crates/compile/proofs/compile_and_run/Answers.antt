@@ -1,31 +1,16 @@
-use mathlib.Core.Path.{sym}
-use Prim.Native.Nat.{◌≤◌}
-use native.Mathlib.Omega.{arith}
-use lib.ListN.{length}
-use lib.Seq.{length-take-le}
-use Rattle.compile.proofs.Evaluating.{counted, refused-tells, run-tells}
+use Rattle.std.proofs.lemmas.Result.{err_from_is_err_and}
+use Rattle.compile.proofs.Evaluating.{refused-tells, run-tells}
 use Rattle.compile.proofs.compile_and_run.Goals as goal
 
-pub slice_bounds-run-end : goal.slice_bounds-run-end
-slice_bounds-run-end c =
-    let k = c.compile-answer in
-    let inside : c.in-Accepted.count ≤ length k.new.image = rw k.auto.image (counted _ _ _ _ _ _ _ _ c.in-Accepted.is k.ensures.means) in
-    omega (arith, inside)
+pub returns-in_err-compiled : goal.returns-in_err-compiled
+returns-in_err-compiled c =
+    let p = err_from_is_err_and c.from_residual.result c.from_residual.ensures.1 in
+    let k = c.in_err-compiled.ensures in
+    let told = refused-tells _ _ _ _ _ c.args.table.now k.means in
+    rw (p.1, p.2) (record { means = told.0; stores = told.1; writes = k.writes; clears = k.clears })
 
-pub slice_bounds-run-end-in-Accepted : goal.slice_bounds-run-end-in-Accepted
-slice_bounds-run-end-in-Accepted c =
-    let k = c.compile-answer in
-    let inside : c.in-Accepted.count ≤ length k.new.image = rw k.auto.image (counted _ _ _ _ _ _ _ _ c.in-Accepted.is k.ensures.means) in
-    sym (length-take-le _ _ (omega (arith, inside)))
-
-pub returns-in-Refused : goal.returns-in-Refused
-returns-in-Refused c =
-    let k = c.compile-answer.ensures in
-    let told = refused-tells _ _ _ _ _ _ _ _ c.in-Refused.is k.means in
-    record { means = told.0; stores = told.1; writes = k.writes; clears = k.clears }
-
-pub returns-in-Accepted : goal.returns-in-Accepted
-returns-in-Accepted c =
-    let k = c.compile-answer.ensures in
-    let told = run-tells _ _ _ _ _ _ _ _ _ _ _ _ _ c.run-report.result c.in-Accepted.is k.means k.writes c.run-report.ensures in
+pub returns : goal.returns
+returns c =
+    let k = c.in_ok-compiled.ensures in
+    let told = run-tells _ _ _ _ _ _ _ _ _ c.run-report.result k.means k.writes c.run-report.ensures in
     record { means = told.0; stores = told.1; writes = k.writes; clears = k.clears }

@@ -1,20 +1,12 @@
-use mathlib.Core.Path.{sym, ◌∙◌}
-use Rattle.names.proofs.Letters.{letters_start, letter_on, letter_off, letters_end}
+use Rattle.std.proofs.Common.{rules, arith, ◌∙◌, sym}
+use Rattle.std.proofs.lemmas.Iterator.{YieldsList-from_range}
+use Rattle.std.proofs.lemmas.Iterator.Search.{all_from_yields_List}
+use borrow.Author.Tests.{tests}
+use Rattle.names.proofs.Letters.{alike, each_alike}
 use Rattle.names.proofs.same.Goals as goal
 
-pub loop-k-init : goal.loop-k-init
-loop-k-init c = letters_start _ _ _ _
-
-pub returns-then-letter_at : goal.returns-then-letter_at
-returns-then-letter_at c =
-    sym
-    (c.loop-k.invariant
-    ∙ letter_off _ _ _ _ _ c.loop-k-test.true (λ e. c.if-letter_at.true (c.letter_at.ensures ∙ e ∙ sym c.letter_at-in-loop-k.ensures)))
-
-pub loop-k-preserved : goal.loop-k-preserved
-loop-k-preserved c =
-    c.loop-k.invariant
-    ∙ letter_on _ _ _ _ _ c.loop-k-test.true (sym c.letter_at.ensures ∙ c.if-letter_at.false ∙ c.letter_at-in-loop-k.ensures)
-
 pub returns : goal.returns
-returns c = sym (c.loop-k.invariant ∙ letters_end _ _ _ _ _ c.loop-k-test.false)
+returns c =
+    let a = c.args in
+    all_from_yields_List (alike a.text.now a.a a.b) _ _ _ c.all.ensures.ran (YieldsList-from_range 0 a.length a.length (cc) (omega arith)) (λ x b q k. search (rules, tests))
+    ∙ sym (each_alike a.text.now a.a a.b a.length)

@@ -1,33 +1,20 @@
-use mathlib.Core.Path.{refl, sym, ap, ◌∙◌}
-use native.Mathlib.Omega.{arith}
-use lib.ListN.{drop, length-drop}
-use mir.Syntax.{w32}
-use mir.Facts.{to_z-of_z}
-use borrow.Author.Rules.{rules, sfits_of}
-use Rattle.variables.specs.Slots.{is_some}
-use Rattle.variables.proofs.Reading.{at_variable, at_cut, at_end}
+use Rattle.std.proofs.Common.{◌≡◌, sym, ◌∙◌, rules, ◌%◌, eqb, length, true, false}
+use Rattle.std.proofs.lemmas.Iterator.{YieldsList-from_slice}
+use Rattle.std.proofs.lemmas.Iterator.Search.{all_from_yields_List}
+use borrow.Author.Tests.{tests}
+use Rattle.variables.specs.Slots.{fives}
+use Rattle.variables.proofs.Values.{good, all_good}
 use Rattle.variables.proofs.are_variables.Goals as goal
 
-pub loop-i-init : goal.loop-i-init
-loop-i-init c = (omega arith, refl)
+pub returns-then-is_empty : goal.returns-then-is_empty
+returns-then-is_empty c =
+    let l = c.args.vars.now in
+    let none : eqb (length l % 5) 0 ≡ true = rw (← c.as_chunks.ensures.back_len, ← c.is_empty.ensures) c.if-is_empty.true in
+    all_from_yields_List good _ _ _ c.all.ensures.ran (YieldsList-from_slice (fives l) (cc)) (λ x b q k. search (rules, tests))
+    ∙ sym (all_good l ∙ rw none)
 
-pub returns-then-vars-i-lt5 : goal.returns-then-vars-i-lt5
-unfolding is_some
-returns-then-vars-i-lt5 c =
-    let s = c.args.vars.now in
-    sym (c.loop-i.invariant.1 ∙ ap is_some (at_cut (drop c.loop-i.i s) (omega (arith, length-drop c.loop-i.i s)) (omega (arith, length-drop c.loop-i.i s))))
-
-pub returns-then-not-is_variable : goal.returns-then-not-is_variable
-returns-then-not-is_variable c =
-    let s = c.args.vars.now in
-    let e = at_variable s c.loop-i.i (omega arith) (to_z-of_z {w = w32} (sfits_of c.value_of-value.type_inv) ∙ c.value_of-value.ensures) c.is_variable.ensures in
-    sym (c.loop-i.invariant.1 ∙ e ∙ rw c.if-not-is_variable.true)
-
-pub loop-i-preserved : goal.loop-i-preserved
-loop-i-preserved c =
-    let s = c.args.vars.now in
-    let e = at_variable s c.loop-i.i (omega arith) (to_z-of_z {w = w32} (sfits_of c.value_of-value.type_inv) ∙ c.value_of-value.ensures) c.is_variable.ensures in
-    (search rules, c.loop-i.invariant.1 ∙ e ∙ rw c.if-not-is_variable.false)
-
-pub returns : goal.returns
-returns c = sym (c.loop-i.invariant.1 ∙ at_end c.args.vars.now c.loop-i.i (omega arith))
+pub returns-else-is_empty : goal.returns-else-is_empty
+returns-else-is_empty c =
+    let l = c.args.vars.now in
+    let some : eqb (length l % 5) 0 ≡ false = rw (← c.as_chunks.ensures.back_len, ← c.is_empty.ensures) c.if-is_empty.false in
+    c.if-is_empty.false ∙ sym (all_good l ∙ rw some)

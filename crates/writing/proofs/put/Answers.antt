@@ -1,21 +1,11 @@
-use native.Mathlib.Omega.{arith}
-use lib.Seq.{take_all}
-use Rattle.writing.proofs.Buffers.{sets_more, put_in, put_out}
-use borrow.Author.Rules.{rules}
+use Rattle.std.proofs.Common.{arith}
+use Rattle.writing.proofs.Buffers.{copied, put_out}
 use Rattle.writing.proofs.put.Goals as goal
+use Rattle.writing.proofs.put.Goals.{then-buffer-at-via-then-buffer-at, then-buffer-at-via-else-buffer-at+then-buffer-at-2}
 
 pub returns-then-buffer-at : goal.returns-then-buffer-at
-returns-then-buffer-at c = put_out _ _ _ (omega arith)
-
-pub returns-then-buffer-at-2 : goal.returns-then-buffer-at-2
-returns-then-buffer-at-2 c = put_out _ _ _ (omega arith)
-
-pub loop-k-preserved : goal.loop-k-preserved
-loop-k-preserved c =
-    let l = c.loop-k in
-    (search rules, search rules, rw l.invariant.2 (sets_more _ _ c.args.bytes.now l.k (omega arith)))
+returns-then-buffer-at c =
+    put_out _ _ _ (elim c.then-buffer-at.branch [ then-buffer-at-via-then-buffer-at w ↦ omega arith | then-buffer-at-via-else-buffer-at+then-buffer-at-2 w ↦ omega arith ])
 
 pub returns : goal.returns
-returns c =
-    let l = c.loop-k in
-    rw (l.invariant.2, take_all l.k c.args.bytes.now (omega arith)) (put_in _ _ _ (omega arith))
+returns c = copied _ _ _ _ (omega arith) c.copy_from_slice.ensures.after

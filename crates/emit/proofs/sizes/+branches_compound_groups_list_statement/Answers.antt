@@ -1,4 +1,10 @@
+use mathlib.Core.Path.{refl, sym, ap, ◌∙◌}
 use native.Mathlib.Omega.{arith}
+use Rattle.std.proofs.lemmas.Bool.{eqb-true, eqb-false}
+use Rattle.rules.specs.Kinds.{FINISH, ELSE, THEN, ASSIGN, EXIT}
+use Rattle.rules.specs.declared.kinds.Kind.TheVariants.{If, Case, For, While, Repeat}
+use Rattle.emit.proofs.KindTests.{kind_or, kind_other}
+use Rattle.emit.proofs.Readers.{stayed, taken, tag_of, seen, unseen, held_read, labels_read, statement_read, compound_read, list_read, branches_read, groups_read}
 use Rattle.emit.proofs.SizeSums.{fewer}
 use Rattle.emit.proofs.SizeLists.{list_start, list-turn, list_done, branches_start, branch-moves, branches-turn, branches_else, branches_done, groups_start, label-ahead, group-moves, groups-turn, groups_done}
 use Rattle.emit.proofs.SizeStatements.{assign-does, exit-does, none_left, compound-does, if_does, case-does, for_does, while_does, repeat-does}
@@ -6,102 +12,169 @@ use Rattle.emit.proofs.sizes.+branches_compound_groups_list_statement.Goals as g
 
 -- IF's branches
 
-pub branches-loop-condition-init : goal.branches-loop-condition-init
-branches-loop-condition-init t c = branches_start _ _ _
+pub branches-loop-from-init : goal.branches-loop-from-init
+branches-loop-from-init t c = record { same = refl; reads = branches_start _ _ _ }
 
-pub branches-loop-condition-smaller : goal.branches-loop-condition-smaller
-branches-loop-condition-smaller t c =
-    fewer _ _ _ c.tag_at.ensures (λ e. omega (arith, e, c.loop-condition-test.true))
-    (branch-moves _ c.behind.ensures c.held-condition.ensures c.list-body.ensures)
+pub branches-loop-from-smaller : goal.branches-loop-from-smaller
+branches-loop-from-smaller t c =
+    let then = c.in-Some.ensures.takes in
+    let a = c.next_if.ensures.same in
+    let b = c.held.ensures.same ∙ a in
+    let k = eqb-true _ THEN then.0 in
+    rw (c.list.ensures.same ∙ b) (fewer _ _ _ refl (λ e. omega arith) (branch-moves _ then.2 (held_read a c.held.ensures) (list_read b c.list.ensures)))
 
-pub branches-loop-condition-preserved : goal.branches-loop-condition-preserved
-branches-loop-condition-preserved t c =
-    branches-turn c.loop-condition.invariant c.tag_at.ensures c.loop-condition-test.true c.behind.ensures c.held-condition.ensures
-    c.list-body.ensures
-    c.plus.ensures c.plus-before.ensures c.plus-in-loop-condition.ensures c.jump_size.ensures c.plus-in-loop-condition-2.ensures
+pub branches-loop-from-preserved : goal.branches-loop-from-preserved
+branches-loop-from-preserved t c =
+    let e = c.loop-from.invariant.same in
+    let then = rw e at c.in-Some.ensures.takes in
+    let a = c.next_if.ensures.same ∙ e in
+    let b = c.held.ensures.same ∙ a in
+    let d = c.list.ensures.same ∙ b in
+    record {
+      same = d;
+      reads = branches-turn c.loop-from.invariant.reads refl (eqb-true _ THEN then.0) then.2 (held_read a c.held.ensures) (list_read b c.list.ensures)
+          c.add.ensures c.add-in-Some.ensures c.add-in-Some-2.ensures (rw d at c.jump_size.ensures) c.add-size.ensures;
+    }
 
-pub branches-returns-then-tag_at-eq-ELSE : goal.branches-returns-then-tag_at-eq-ELSE
-branches-returns-then-tag_at-eq-ELSE t c =
-    branches_else c.loop-condition.invariant c.tag_at-2.ensures c.if-tag_at-eq-ELSE.true c.behind-then-tag_at-eq-ELSE.ensures c.list-other.ensures
-    c.plus-then-tag_at-eq-ELSE.ensures
+pub branches-returns-then-is : goal.branches-returns-then-is
+branches-returns-then-is t c =
+    let e = c.loop-from.invariant.same in
+    let stays = rw e at c.in_default.ensures.takes in
+    let a = c.next_if.ensures.same ∙ e in
+    let b = c.read.ensures.same ∙ a in
+    let d = branches_else c.loop-from.invariant.reads (ap (λ c. c.tag) (rw (a, stays.1) at c.read.ensures.gives)) (eqb-true _ ELSE (sym c.is.ensures ∙ c.if-is.true))
+    (rw (a, stays.1) at c.read.ensures.moves) (list_read b c.list-then-is.ensures) c.add-then-is.ensures in
+    record { same = c.list-then-is.ensures.same ∙ b; fine = d.fine; means = d.means }
 
-pub branches-returns : goal.branches-returns
-branches-returns t c =
-    branches_done c.loop-condition.invariant c.tag_at.ensures c.loop-condition-test.false c.tag_at-2.ensures c.if-tag_at-eq-ELSE.false
-    c.behind-2.ensures
+pub branches-returns-else-is : goal.branches-returns-else-is
+branches-returns-else-is t c =
+    let e = c.loop-from.invariant.same in
+    let stays = rw e at c.in_default.ensures.takes in
+    let a = c.next_if.ensures.same ∙ e in
+    let d = branches_done c.loop-from.invariant.reads refl (eqb-false _ THEN stays.0) (ap (λ c. c.tag) (rw (a, stays.1) at c.read.ensures.gives))
+    (eqb-false _ ELSE (sym c.is.ensures ∙ c.if-is.false)) (rw (a, stays.1) at c.read.ensures.moves) in
+    record { same = c.read.ensures.same ∙ a; fine = d.fine; means = d.means }
 
 -- IF, CASE and loops
 
-pub compound-returns-in-21 : goal.compound-returns-in-21
-compound-returns-in-21 t c = if_does c.tag_at.ensures c.in-21.is c.behind-next.ensures c.branches-b.ensures c.plus.ensures
+pub compound-returns-in-If : goal.compound-returns-in-If
+compound-returns-in-If t c =
+    let a = c.read.ensures in
+    let d = if_does (ap (λ c. c.tag) a.gives) (kind_or _ _ Repeat c.kind.ensures c.unwrap_or.ensures If (λ e. cc) c.in-If.is) a.moves (branches_read a.same c.branches.ensures) c.add.ensures in
+    record { same = c.branches.ensures.same ∙ a.same; fine = d.fine; means = d.means }
 
-pub compound-returns-in-6 : goal.compound-returns-in-6
-compound-returns-in-6 t c =
-    case-does c.tag_at.ensures c.in-6.is c.behind-next.ensures c.held-selector.ensures c.groups-g.ensures
-    c.plus-in-6.ensures c.plus-in-6-2.ensures
+pub compound-returns-in-Case : goal.compound-returns-in-Case
+compound-returns-in-Case t c =
+    let a = c.read.ensures in
+    let b = c.held.ensures.same ∙ a.same in
+    let d = case-does (ap (λ c. c.tag) a.gives) (kind_or _ _ Repeat c.kind.ensures c.unwrap_or.ensures Case (λ e. cc) c.in-Case.is) a.moves (held_read a.same c.held.ensures) (groups_read b c.groups.ensures)
+    c.add-in-Case.ensures c.add-in-Case-2.ensures in
+    record { same = c.groups.ensures.same ∙ b; fine = d.fine; means = d.means }
 
-pub compound-returns-in-20 : goal.compound-returns-in-20
-compound-returns-in-20 t c =
-    for_does c.tag_at.ensures c.in-20.is c.behind-next.ensures c.held-initial.ensures c.held-last.ensures
-    c.behind.ensures c.list-body.ensures
-    c.plus-bounds.ensures c.plus-in-20.ensures c.plus-in-20-2.ensures
+pub compound-returns-in-For : goal.compound-returns-in-For
+compound-returns-in-For t c =
+    let a = c.read.ensures in
+    let b = c.held-in-For.ensures.same ∙ a.same in
+    let e = c.held-in-For-2.ensures.same ∙ b in
+    let f = c.read-in-For.ensures.same ∙ e in
+    let d = for_does (ap (λ c. c.tag) a.gives) (kind_or _ _ Repeat c.kind.ensures c.unwrap_or.ensures For (λ e. cc) c.in-For.is) a.moves (held_read a.same c.held-in-For.ensures) (held_read b c.held-in-For-2.ensures)
+    (rw e at c.read-in-For.ensures.moves) (list_read f c.list.ensures) c.add-bounds.ensures c.add-in-For.ensures c.add-in-For-2.ensures in
+    record { same = c.list.ensures.same ∙ f; fine = d.fine; means = d.means }
 
-pub compound-returns-in-33 : goal.compound-returns-in-33
-compound-returns-in-33 t c =
-    while_does c.tag_at.ensures c.in-33.is c.behind-next.ensures c.held-condition.ensures
-    c.list-body-in-33.ensures c.plus-in-33.ensures c.plus-in-33-2.ensures
+pub compound-returns-in-While : goal.compound-returns-in-While
+compound-returns-in-While t c =
+    let a = c.read.ensures in
+    let b = c.held-in-While.ensures.same ∙ a.same in
+    let d = while_does (ap (λ c. c.tag) a.gives) (kind_or _ _ Repeat c.kind.ensures c.unwrap_or.ensures While (λ e. cc) c.in-While.is) a.moves (held_read a.same c.held-in-While.ensures) (list_read b c.list-in-While.ensures)
+    c.add-in-While.ensures c.add-in-While-2.ensures in
+    record { same = c.list-in-While.ensures.same ∙ b; fine = d.fine; means = d.means }
 
 pub compound-returns-in_default : goal.compound-returns-in_default
 compound-returns-in_default t c =
-    repeat-does c.tag_at.ensures (λ e. omega arith) (λ e. omega arith) (λ e. omega arith)
-    (λ e. omega arith) c.behind-next.ensures
-    c.list-body-in_default.ensures c.held-condition-in_default.ensures c.plus-in_default.ensures c.plus-in_default-2.ensures
+    let a = c.read.ensures in
+    let b = c.list-in_default.ensures.same ∙ a.same in
+    let other = kind_other _ _ Repeat c.kind.ensures c.unwrap_or.ensures in
+    let no = c.in_default in
+    let d = repeat-does (ap (λ c. c.tag) a.gives) (other If no.not-If) (other Case no.not-Case) (other For no.not-For) (other While no.not-While) a.moves
+    (list_read a.same c.list-in_default.ensures) (held_read b c.held-in_default.ensures) c.add-in_default.ensures c.add-in_default-2.ensures in
+    record { same = c.held-in_default.ensures.same ∙ b; fine = d.fine; means = d.means }
 
 -- CASE's groups
 
-pub groups-loop-tests-init : goal.groups-loop-tests-init
-groups-loop-tests-init t c = groups_start _ _ _
+pub groups-loop-from-init : goal.groups-loop-from-init
+groups-loop-from-init t c = record { same = refl; reads = groups_start _ _ _ }
 
-pub groups-loop-tests-smaller : goal.groups-loop-tests-smaller
-groups-loop-tests-smaller t c =
-    fewer _ _ _ c.tag_at.ensures (label-ahead c.is_label.ensures c.loop-tests-test.true)
-    (group-moves c.labels-tests.ensures c.list-body.ensures)
+pub groups-loop-from-smaller : goal.groups-loop-from-smaller
+groups-loop-from-smaller t c =
+    let a = c.labels.ensures.same in
+    rw (c.list.ensures.same ∙ a) (fewer _ _ _ (ap (λ c. c.tag) c.cell.ensures) (label-ahead c.is_label.ensures c.loop-from-test.true)
+    (group-moves (labels_read refl c.labels.ensures) (list_read a c.list.ensures)))
 
-pub groups-loop-tests-preserved : goal.groups-loop-tests-preserved
-groups-loop-tests-preserved t c =
-    groups-turn c.loop-tests.invariant c.tag_at.ensures c.is_label.ensures c.loop-tests-test.true c.labels-tests.ensures
-    c.list-body.ensures
-    c.plus.ensures c.plus-before.ensures c.plus-in-loop-tests.ensures c.plus-in-loop-tests-2.ensures
+pub groups-loop-from-preserved : goal.groups-loop-from-preserved
+groups-loop-from-preserved t c =
+    let e = c.loop-from.invariant.same in
+    let a = c.labels.ensures.same ∙ e in
+    record {
+      same = c.list.ensures.same ∙ a;
+      reads = groups-turn c.loop-from.invariant.reads (tag_of e _ c.cell.ensures) c.is_label.ensures c.loop-from-test.true (labels_read e c.labels.ensures) (list_read a c.list.ensures)
+          c.add.ensures c.add-in-loop-from.ensures c.add-in-loop-from-2.ensures c.add-size.ensures;
+    }
 
 pub groups-returns : goal.groups-returns
 groups-returns t c =
-    groups_done c.loop-tests.invariant c.tag_at.ensures c.is_label.ensures c.loop-tests-test.false c.list-other.ensures
-    c.plus-2.ensures c.plus-3.ensures
+    let e = c.loop-from.invariant.same in
+    let d = groups_done c.loop-from.invariant.reads (tag_of e _ c.cell.ensures) c.is_label.ensures c.loop-from-test.false (list_read e c.list-2.ensures) c.add-2.ensures c.add-3.ensures in
+    record { same = c.list-2.ensures.same ∙ e; fine = d.fine; means = d.means }
 
 -- A list
 
-pub list-loop-one-init : goal.list-loop-one-init
-list-loop-one-init t c = list_start _ _ _
+pub list-loop-from-init : goal.list-loop-from-init
+list-loop-from-init t c = record { same = refl; reads = list_start _ _ _ }
 
-pub list-loop-one-smaller : goal.list-loop-one-smaller
-list-loop-one-smaller t c = fewer _ _ _ c.tag_at.ensures c.loop-one-test.true c.statement-one.ensures.fine
+pub list-loop-from-smaller : goal.list-loop-from-smaller
+list-loop-from-smaller t c =
+    let stays = stayed _ _ _ c.next_if.ensures.takes c.is_none.ensures c.loop-from-test.true in
+    rw (c.statement.ensures.same ∙ c.next_if.ensures.same)
+    (fewer _ _ _ refl (eqb-false _ FINISH stays.0) (rw stays.1 at (statement_read c.next_if.ensures.same c.statement.ensures).fine))
 
-pub list-loop-one-preserved : goal.list-loop-one-preserved
-list-loop-one-preserved t c = list-turn c.loop-one.invariant c.tag_at.ensures c.loop-one-test.true c.statement-one.ensures c.plus.ensures
+pub list-loop-from-preserved : goal.list-loop-from-preserved
+list-loop-from-preserved t c =
+    let e = c.loop-from.invariant.same in
+    let stays = rw e at (stayed _ _ _ c.next_if.ensures.takes c.is_none.ensures c.loop-from-test.true) in
+    let a = c.next_if.ensures.same ∙ e in
+    record {
+      same = c.statement.ensures.same ∙ a;
+      reads = list-turn c.loop-from.invariant.reads refl (eqb-false _ FINISH stays.0) (rw stays.1 at (statement_read a c.statement.ensures)) c.add-size.ensures;
+    }
 
 pub list-returns : goal.list-returns
-list-returns t c = list_done c.loop-one.invariant c.tag_at.ensures c.loop-one-test.false c.behind.ensures
+list-returns t c =
+    let e = c.loop-from.invariant.same in
+    let took = rw e at (taken _ _ _ c.next_if.ensures.takes c.is_none.ensures c.loop-from-test.false) in
+    let d = list_done c.loop-from.invariant.reads refl (eqb-true _ FINISH took.0) took.1 in
+    record { same = c.next_if.ensures.same ∙ e; fine = d.fine; means = d.means }
 
 -- A statement
 
+pub statement-returns-then-is_at : goal.statement-returns-then-is_at
+statement-returns-then-is_at t c =
+    let a = c.read.ensures in
+    let d = assign-does refl (seen refl _ ASSIGN c.is_at.ensures c.if-is_at.true) a.moves (held_read a.same c.held.ensures) c.add.ensures in
+    record { same = c.held.ensures.same ∙ a.same; fine = d.fine; means = d.means }
+
+pub statement-returns-then-is_at-2 : goal.statement-returns-then-is_at-2
+statement-returns-then-is_at-2 t c =
+    let a = c.read-then-is_at-2.ensures in
+    let d = exit-does refl (seen refl _ EXIT c.is_at-else-is_at.ensures c.if-is_at-2.true) a.moves in
+    record { same = a.same; fine = d.fine; means = d.means }
+
 pub statement-returns-then-levels-eq0 : goal.statement-returns-then-levels-eq0
-statement-returns-then-levels-eq0 t c = none_left c.tag_at.ensures (λ e. omega arith) (λ e. omega arith) c.if-levels-eq0.true c.behind-next.ensures
-
-pub statement-returns-in-35 : goal.statement-returns-in-35
-statement-returns-in-35 t c = assign-does c.tag_at.ensures c.in-35.is c.behind-next.ensures c.held-value.ensures c.plus.ensures
-
-pub statement-returns-in-18 : goal.statement-returns-in-18
-statement-returns-in-18 t c = exit-does c.tag_at.ensures c.in-18.is c.behind-next.ensures
+statement-returns-then-levels-eq0 t c =
+    let a = c.read-then-levels-eq0.ensures in
+    let d = none_left refl (unseen refl _ ASSIGN c.is_at.ensures c.if-is_at.false) (unseen refl _ EXIT c.is_at-else-is_at.ensures c.if-is_at-2.false) c.if-levels-eq0.true a.moves in
+    record { same = a.same; fine = d.fine; means = d.means }
 
 pub statement-returns-else-levels-eq0 : goal.statement-returns-else-levels-eq0
-statement-returns-else-levels-eq0 t c = compound-does c.tag_at.ensures (λ e. omega arith) (λ e. omega arith) (omega arith) c.compound.ensures
+statement-returns-else-levels-eq0 t c =
+    let d = compound-does refl (unseen refl _ ASSIGN c.is_at.ensures c.if-is_at.false) (unseen refl _ EXIT c.is_at-else-is_at.ensures c.if-is_at-2.false) (omega arith) (compound_read refl c.compound.ensures) in
+    record { same = c.compound.ensures.same; fine = d.fine; means = d.means }

@@ -1,15 +1,10 @@
-use native.Mathlib.Omega.{arith}
-use Rattle.figures.proofs.Integers.{read_back, kept, taken, taken_fits}
+use mathlib.Core.Path.{ap}
+use Rattle.std.specs.Prelude.{Some}
+use Rattle.figures.proofs.Integers.{converted, kept, turned}
 use Rattle.figures.proofs.expressions.signed.Goals as goal
 
-pub returns-then-value-gt2147483647 : goal.returns-then-value-gt2147483647
-returns-then-value-gt2147483647 c = λ h. absurd (omega arith)
-
-pub overflow_sub-result : goal.overflow_sub-result
-overflow_sub-result c = taken_fits _ (omega arith) c.signed-v.ensures
-
 pub returns-then-minus : goal.returns-then-minus
-returns-then-minus c = λ h. rw (taken _ h c.signed-v.ensures, c.if-minus.true) (read_back _ _ h)
+returns-then-minus c = λ h. rw c.if-minus.true (ap Some (turned _ h (converted _ _ c.try_from.ensures c.in_ok-value.ensures.value)))
 
 pub returns-else-minus : goal.returns-else-minus
-returns-else-minus c = λ h. rw c.if-minus.false (kept _ h c.signed-v.ensures)
+returns-else-minus c = λ h. rw c.if-minus.false (ap Some (kept _ h (converted _ _ c.try_from.ensures c.in_ok-value.ensures.value)))

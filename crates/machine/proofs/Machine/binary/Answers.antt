@@ -1,25 +1,40 @@
-use mathlib.Core.Path.{ap, ◌∙◌}
-use native.Mathlib.Omega.{arith}
-use Rattle.machine.specs.Stepping.{View, view, only, top_of, popped}
-use Rattle.machine.proofs.Stack.{back, deep, shallow, under, answer_same, binop_same}
-use Rattle.machine.proofs.Moves.{binary_on, binary_out}
+use mathlib.Core.Path.{◌≡◌, refl, ap, ◌∙◌}
+use mir.Syntax.{w32}
+use mir.Val.{to_z, of_z}
+use borrow.Author.Rules.{rules}
+use Rattle.machine.specs.Stepping.{view, ahead, popped}
+use Rattle.machine.proofs.Stack.{deep, shallow, ended, moved, pushed_same, answer_same, binop_same, second}
+use Rattle.machine.proofs.Moves.{answer_on, answer_out, binary_on, binary_out}
+use Rattle.machine.specs.declared.Stop.TheVariants.{Broken}
 use Rattle.machine.proofs.Machine.binary.Goals as goal
 
-pub returns-then-h-lt2 : goal.returns-then-h-lt2
-returns-then-h-lt2 c = λ Γ code b t. ap (only t) c.halt.ensures ∙ binary_out Γ code b (view c.args.self) t _ (shallow _ _ _ c.if-h-lt2.true)
+pub returns-in_err-left : goal.returns-in_err-left
+returns-in_err-left c = λ Γ code b t. rw (ended _ Broken c.from_residual.ensures.1 c.in_err-left.ensures.1) (binary_out Γ code b (view c.args.self) t _ (shallow _ _ _ c.in_err-left.ensures.0))
 
-pub answer-requires : goal.answer-requires
-answer-requires c =
-    let low = c.pop.ensures.0 ∙ ap popped c.pop-low.ensures.0 in
-    (c.requires, record { height = omega (arith, c.pop-low.ensures.1, c.pop.ensures.1); same = under _ (view c.args.self) low })
+pub returns-in_err-v : goal.returns-in_err-v
+returns-in_err-v c =
+    let m = c.args.self in
+    let x = c.in_ok-left.left in
+    let y = c.in_ok-right.right in
+    let left : to_z w32 (of_z w32 x) ≡ x = search rules in
+    let right : to_z w32 (of_z w32 y) ≡ y = search rules in
+    let same = binop_same _ (left ∙ c.in_ok-left.ensures.1 ∙ second (view m).stack) (right ∙ c.in_ok-right.ensures.1) in
+    λ Γ code b t.
+    rw (ended _ _ c.from_residual-in_err-v.ensures.1 refl)
+    (answer_out Γ code b (view m) t _ _ ∙ answer_same b t (view m) (c.in_err-v.ensures ∙ same) refl ∙ binary_on Γ code b (view m) t _ (deep _ _ _ c.in_ok-left.ensures.0))
 
 pub returns : goal.returns
 returns c =
-    let left = back c.top-left.type_inv ∙ c.top-left.ensures ∙ ap (λ (v : View). top_of v.stack) c.pop-low.ensures.0 in
-    let right = back c.top-right.type_inv ∙ c.top-right.ensures in
+    let m = c.args.self in
+    let z = c.in_ok-v.v in
+    let v : to_z w32 (of_z w32 z) ≡ z = search rules in
+    let x = c.in_ok-left.left in
+    let y = c.in_ok-right.right in
+    let left : to_z w32 (of_z w32 x) ≡ x = search rules in
+    let right : to_z w32 (of_z w32 y) ≡ y = search rules in
+    let same = binop_same _ (left ∙ c.in_ok-left.ensures.1 ∙ second (view m).stack) (right ∙ c.in_ok-right.ensures.1) in
     λ Γ code b t.
-    c.answer.ensures b t
-    ∙ answer_same b t (view c.args.self)
-    (c.apply.ensures ∙ binop_same _ left right)
-    (ap (λ (v : View). v.stack) (c.pop.ensures.0 ∙ ap popped c.pop-low.ensures.0))
-    ∙ binary_on Γ code b (view c.args.self) t _ (deep _ _ _ c.if-h-lt2.false)
+    moved t (c.advance.ensures.view ∙ ap (ahead 1) (c.push.ensures.view ∙ pushed_same v (c.pop-2.ensures.view ∙ ap popped c.pop.ensures.view)))
+    ∙ answer_on Γ code b (view m) t _ _
+    ∙ answer_same b t (view m) (c.in_ok-v.ensures ∙ same) refl
+    ∙ binary_on Γ code b (view m) t _ (deep _ _ _ c.in_ok-left.ensures.0)

@@ -1,18 +1,18 @@
-use mathlib.Core.Path.{◌≡◌, ap, ◌∙◌}
-use lib.IntN.{ℤ}
+use mathlib.Core.Path.{refl, ap, ◌∙◌}
 use mir.Facts.{to_z-of_z}
-use Rattle.machine.specs.Stepping.{view, only, pushed, on}
-use Rattle.machine.proofs.Stack.{deep, shallow, still}
+use Rattle.machine.specs.Stepping.{view, ahead}
+use Rattle.machine.proofs.Stack.{down_length, pushed_same, moved}
 use Rattle.machine.proofs.Moves.{put_on, put_out}
 use Rattle.machine.proofs.Machine.put.Goals as goal
 
-pub advance-requires : goal.advance-requires
-advance-requires c = still c.args.n c.push.ensures.0 c.requires.at
+pub returns-then-self-ge-STACK : goal.returns-then-self-ge-STACK
+returns-then-self-ge-STACK c =
+    let m = c.args.self in
+    λ Γ code b t. put_out Γ code b (view m) t _ _ (rw (down_length m.stack m.height) c.if-self-ge-STACK.true)
 
-pub returns-then-h-lt-STACK : goal.returns-then-h-lt-STACK
-returns-then-h-lt-STACK c =
-    let p : view c.push.result ≡ pushed c.args.v (view c.args.self) = c.push.ensures.0 ∙ ap (λ (z : ℤ). pushed z (view c.args.self)) (to_z-of_z c.ranges.v) in
-    λ Γ code b t. ap (only t) (c.advance.ensures ∙ ap (on c.args.n) p) ∙ put_on Γ code b (view c.args.self) t _ _ (shallow _ _ _ c.if-h-lt-STACK.true)
-
-pub returns-else-h-lt-STACK : goal.returns-else-h-lt-STACK
-returns-else-h-lt-STACK c = λ Γ code b t. ap (only t) c.halt.ensures ∙ put_out Γ code b (view c.args.self) t _ _ (deep _ _ _ c.if-h-lt-STACK.false)
+pub returns : goal.returns
+returns c =
+    let m = c.args.self in
+    λ Γ code b t.
+    moved t (c.advance.ensures.view ∙ ap (ahead c.args.n) (c.push.ensures.view ∙ pushed_same (to_z-of_z c.ranges.v) refl))
+    ∙ put_on Γ code b (view m) t _ _ (rw (down_length m.stack m.height) c.if-self-ge-STACK.false)

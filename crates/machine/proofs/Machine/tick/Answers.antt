@@ -1,10 +1,11 @@
-use mathlib.Core.Path.{ap, ◌∙◌}
-use Rattle.machine.specs.Stepping.{view, only}
+use mathlib.Core.Path.{◌∙◌}
+use Rattle.machine.specs.Stepping.{view}
+use Rattle.machine.proofs.Stack.{moved}
 use Rattle.machine.proofs.Moves.{tick_on, tick_out}
 use Rattle.machine.proofs.Machine.tick.Goals as goal
 
-pub returns-then-ticks-budget : goal.returns-then-ticks-budget
-returns-then-ticks-budget c = λ Γ code t. ap (only t) c.advance.ensures ∙ tick_on Γ code c.args.budget (view c.args.self) t c.if-ticks-budget.true
+pub returns-then-budget-self : goal.returns-then-budget-self
+returns-then-budget-self c = λ Γ code t. tick_out Γ code c.args.budget (view c.args.self) t c.if-budget-self.true
 
-pub returns-else-ticks-budget : goal.returns-else-ticks-budget
-returns-else-ticks-budget c = λ Γ code t. ap (only t) c.halt.ensures ∙ tick_out Γ code c.args.budget (view c.args.self) t c.if-ticks-budget.false
+pub returns : goal.returns
+returns c = λ Γ code t. moved t c.advance.ensures.view ∙ tick_on Γ code c.args.budget (view c.args.self) t c.if-budget-self.false

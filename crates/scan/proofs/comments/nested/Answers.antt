@@ -1,52 +1,34 @@
-use mathlib.Core.Path.{◌≡◌, sym, ap, ◌∙◌}
-use mathlib.Core.Bool.{true, false}
-use native.Mathlib.Omega.{arith}
-use borrow.Author.Rules.{rules}
-use lib.ListN.{drop}
-use Rattle.rules.specs.Tokens.{starts, comment_piece}
+use Rattle.std.proofs.Common.{sym, ◌∙◌, rules, arith}
+use Rattle.rules.specs.Tokens.{comment_piece}
 use Rattle.scan.specs.Pieces.{shown}
-use Rattle.scan.proofs.Nested.{begins, opens, closes, ends, passes, never}
+use Rattle.scan.proofs.Starts.{starts_two}
+use Rattle.scan.proofs.Nested.{begins, opens, closes, passes, unclosed, closed}
 use Rattle.scan.proofs.comments.nested.Goals as goal
 
-pub loop-i-init : goal.loop-i-init
-loop-i-init c = (search rules, begins c.args.text.now c.args.from)
+pub loop-open-init : goal.loop-open-init
+loop-open-init c = begins _ c.requires
 
-pub loop-i-preserved-then-stand_at : goal.loop-i-preserved-then-stand_at
-loop-i-preserved-then-stand_at c = (
-  search rules,
-  c.loop-i.invariant.1 ∙
-      opens c.args.text.now c.args.from c.loop-i.i c.loop-i.«open» (omega arith) (omega arith) (sym c.stand_at.ensures ∙ c.if-stand_at.true),
-)
+pub loop-open-preserved-then-starts_with : goal.loop-open-preserved-then-starts_with
+loop-open-preserved-then-starts_with c =
+    opens c.loop-open.invariant c.loop-open-test.true (sym (starts_two 40 42 _) ∙ sym c.starts_with.ensures.value ∙ c.if-starts_with.true)
 
-pub returns-then-open-eq0 : goal.returns-then-open-eq0
+pub loop-open-preserved-then-starts_with-2 : goal.loop-open-preserved-then-starts_with-2
+loop-open-preserved-then-starts_with-2 c =
+    closes c.loop-open.invariant c.loop-open-test.true
+    (sym (starts_two 40 42 _) ∙ sym c.starts_with.ensures.value ∙ c.if-starts_with.false)
+    (sym (starts_two 42 41 _) ∙ sym c.starts_with-else-starts_with.ensures.value ∙ c.if-starts_with-2.true)
+
+pub returns-then-is_empty : goal.returns-then-is_empty
 unfolding shown comment_piece
-returns-then-open-eq0 c =
-    let not_opened : starts 40 42 (drop c.loop-i.i c.args.text.now) ≡ false = sym c.stand_at.ensures ∙ c.if-stand_at.false in
-    let closed : starts 42 41 (drop c.loop-i.i c.args.text.now) ≡ true = sym c.stand_at-else-stand_at.ensures ∙ c.if-stand_at-2.true in
-    sym
-    (ap (λ o. shown (comment_piece o))
-    (c.loop-i.invariant.1 ∙
-    ends c.args.text.now c.args.from c.loop-i.i c.loop-i.«open» (omega arith) (omega arith) not_opened closed (omega arith)))
+returns-then-is_empty c = rw (unclosed c.loop-open.invariant c.loop-open-test.true (search rules))
 
-pub loop-i-preserved-else-open-eq0 : goal.loop-i-preserved-else-open-eq0
-loop-i-preserved-else-open-eq0 c =
-    let not_opened : starts 40 42 (drop c.loop-i.i c.args.text.now) ≡ false = sym c.stand_at.ensures ∙ c.if-stand_at.false in
-    let closed : starts 42 41 (drop c.loop-i.i c.args.text.now) ≡ true = sym c.stand_at-else-stand_at.ensures ∙ c.if-stand_at-2.true in (
-      search rules,
-      c.loop-i.invariant.1 ∙
-          closes c.args.text.now c.args.from c.loop-i.i c.loop-i.«open» (omega arith) (omega arith)
-          not_opened closed (λ e. c.if-open-eq0.false (omega arith)),
-    )
-
-pub loop-i-preserved : goal.loop-i-preserved
-loop-i-preserved c =
-    let not_opened : starts 40 42 (drop c.loop-i.i c.args.text.now) ≡ false = sym c.stand_at.ensures ∙ c.if-stand_at.false in (
-      search rules,
-      c.loop-i.invariant.1 ∙
-          passes c.args.text.now c.args.from c.loop-i.i c.loop-i.«open» (omega arith) (omega arith)
-          not_opened (sym c.stand_at-else-stand_at.ensures ∙ c.if-stand_at-2.false),
-    )
+pub loop-open-preserved : goal.loop-open-preserved
+loop-open-preserved c =
+    passes c.loop-open.invariant c.loop-open-test.true
+    (sym (starts_two 40 42 _) ∙ sym c.starts_with.ensures.value ∙ c.if-starts_with.false)
+    (sym (starts_two 42 41 _) ∙ sym c.starts_with-else-starts_with.ensures.value ∙ c.if-starts_with-2.false)
+    (search rules)
 
 pub returns : goal.returns
 unfolding shown comment_piece
-returns c = sym (ap (λ o. shown (comment_piece o)) (c.loop-i.invariant.1 ∙ never c.args.text.now c.args.from c.loop-i.i c.loop-i.«open» (omega arith) (omega arith)))
+returns c = rw (closed c.loop-open.invariant (omega (arith, c.loop-open-test.false)))

@@ -1,13 +1,9 @@
--- The loop's invariant: what is to come of the comment at i is what comes of it all.
-use mathlib.Core.Path.{◌≡◌}
-use Prim.Native.Nat.{◌≤◌, ◌+◌, ◌-◌}
-use lib.ListN.{length, drop}
-use Rattle.rules.specs.Tokens.{comment}
-use Rattle.scan.proofs.Nested.{left}
+use Rattle.std.proofs.Common.{length}
+use Rattle.scan.proofs.Nested.{Reading}
 use Rattle.scan.proofs.comments.nested.Given as goal
 
-abbrev pub invariant-loop-i : goal.invariant-loop-i
-invariant-loop-i l = ((l.from + 2 ≤ l.i) × (l.i ≤ length l.text) × (1 ≤ l.«open») × (l.«open» ≤ l.i)) × (comment 2 1 (drop (l.from + 2) l.text) ≡ left l.text l.from l.i l.«open»)
+abbrev pub invariant-loop-open : goal.invariant-loop-open
+invariant-loop-open l = Reading l.text l.rest l.«open»
 
-abbrev pub decreases-loop-i : goal.decreases-loop-i
-decreases-loop-i l = length l.text - l.i
+abbrev pub decreases-loop-open : goal.decreases-loop-open
+decreases-loop-open l = length l.rest

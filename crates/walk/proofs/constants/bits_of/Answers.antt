@@ -3,14 +3,10 @@ use Rattle.rules.specs.Walk.{con_value}
 use Rattle.walk.proofs.ConstantValues.{negative-bits}
 use Rattle.walk.proofs.constants.bits_of.Goals as goal
 
-pub returns-then-not-below : goal.returns-then-not-below
-unfolding to_u con_value
-returns-then-not-below c = rw c.if-not-below.true
-
-pub returns-then-value-eq0 : goal.returns-then-value-eq0
-unfolding to_u con_value
-returns-then-value-eq0 c = rw (c.if-not-below.false, c.if-value-eq0.true)
-
-pub returns : goal.returns
+pub returns-then-below : goal.returns-then-below
 unfolding con_value
-returns c = rw c.if-not-below.false (negative-bits _ c.if-value-eq0.false)
+returns-then-below c = let f = c.ranges.value.fits in rw c.if-below.true (negative-bits _ _ c.wrapping_neg.type_inv f c.wrapping_neg.ensures)
+
+pub returns-else-below : goal.returns-else-below
+unfolding to_u con_value
+returns-else-below c = rw c.if-below.false

@@ -1,15 +1,7 @@
-use native.Mathlib.Omega.{arith}
-use Rattle.walk.proofs.ConstantValues.{order_of_low, order_of_high, order_apart, order_across}
+use Rattle.std.proofs.Common.{w32}
+use Rattle.std.proofs.lemmas.Int.{of_z-to_z}
+use Rattle.walk.proofs.ConstantValues.{signed}
 use Rattle.walk.proofs.constants.in_order.Goals as goal
 
-pub returns-then-high-lt2147483648 : goal.returns-then-high-lt2147483648
-returns-then-high-lt2147483648 c = order_of_low _ _ c.if-low-lt2147483648.true c.if-high-lt2147483648.true
-
-pub returns-else-high-lt2147483648 : goal.returns-else-high-lt2147483648
-returns-else-high-lt2147483648 c = order_apart _ _ c.if-low-lt2147483648.true c.if-high-lt2147483648.false
-
-pub returns-then-high-lt2147483648-2 : goal.returns-then-high-lt2147483648-2
-returns-then-high-lt2147483648-2 c = order_across _ _ c.if-low-lt2147483648.false c.if-high-lt2147483648-2.true
-
 pub returns : goal.returns
-returns c = order_of_high _ _ c.if-low-lt2147483648.false c.if-high-lt2147483648-2.false (omega (arith, c.ranges.low)) (omega (arith, c.ranges.high))
+returns c = let f = c.ranges.low.fits in let g = c.ranges.high.fits in rw (c.cast_signed.ensures, c.cast_signed-2.ensures, of_z-to_z w32 _ f, of_z-to_z w32 _ g, signed _ f, signed _ g)

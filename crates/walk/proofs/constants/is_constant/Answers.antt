@@ -1,19 +1,20 @@
-use mathlib.Core.Path.{sym}
 use mathlib.Core.Logic.{⊎_elim}
-use native.Mathlib.Omega.{arith}
+use Rattle.std.proofs.Common.{sym}
+use Rattle.rules.specs.declared.kinds.Kind.TheVariants.{True, False, Plus, Minus}
 use Rattle.walk.specs.Constants.{is_constant}
-use Rattle.walk.proofs.ConstantValues.{signs_start, none-starts}
+use Rattle.walk.proofs.Refusals.{is_kind, no_kind}
+use Rattle.walk.proofs.ConstantValues.{none-starts}
 use Rattle.walk.proofs.constants.is_constant.Goals as goal
 
 pub returns-in_default : goal.returns-in_default
-returns-in_default c = sym (none-starts _ (λ e. grind arith) (λ e. grind arith) (λ e. grind arith) (λ e. grind arith))
+returns-in_default c = let d = c.in_default in let t = c.kind_of.ensures in sym (none-starts _ (no_kind t True d.not-True) (no_kind t False d.not-False) (no_kind t Plus d.not-Plus) (no_kind t Minus d.not-Minus))
 
-pub returns-in_default-2 : goal.returns-in_default-2
-returns-in_default-2 c = sym (none-starts _ (λ e. omega arith) (λ e. omega arith) (λ e. omega arith) (λ e. omega arith))
-
-pub returns-in-30 : goal.returns-in-30
+pub returns-in-True : goal.returns-in-True
 unfolding is_constant
-returns-in-30 c = ⊎_elim (λ e. rw e) (λ e. rw e) c.in-30.is
-
-pub returns-in-30-2 : goal.returns-in-30-2
-returns-in-30-2 c = sym (signs_start _ (omega arith) (omega arith))
+returns-in-True c =
+    let t = c.kind_of.ensures in
+    ⊎_elim (λ e. rw (is_kind t True e (λ z. absurd cc)))
+    (⊎_elim (λ e. rw (is_kind t False e (λ z. absurd cc)))
+    (⊎_elim (λ e. rw (is_kind t Plus e (λ z. absurd cc)))
+    (λ e. rw (is_kind t Minus e (λ z. absurd cc)))))
+    c.in-True.is

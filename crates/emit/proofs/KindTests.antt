@@ -1,0 +1,33 @@
+-- What a cell's kind says of its tag. Assumes nothing.
+use mathlib.Core.Logic.{◌⊎◌, inl, inr}
+use Rattle.std.specs.Result.{result_unwrap_or}
+use Rattle.std.proofs.Common.{◌≡◌, refl, sym, ◌∙◌, ℕ, Result, Ok, Err}
+use Rattle.rules.specs.KindNumbers.{kind_number, Decodes}
+use Rattle.rules.specs.declared.kinds.Kind.{Kind}
+use Rattle.rules.specs.declared.kinds.UnknownKind.{UnknownKind}
+use Rattle.rules.proofs.KindLaws.{other_number}
+use Rattle.std.proofs.lemmas.Bool.{eqb-false}
+
+module _ {n : ℕ} {r : Result Kind UnknownKind} (d : Decodes n r) where
+  pub of_kind : {k : Kind} → r ≡ Ok k → (j : Kind) → k ≡ j → n ≡ kind_number j
+  of_kind e j f = sym (rw (e, f) at d)
+
+  pub of_three : {k a b c : Kind} → r ≡ Ok k → (k ≡ a) ⊎ ((k ≡ b) ⊎ (k ≡ c)) → (n ≡ kind_number a) ⊎ ((n ≡ kind_number b) ⊎ (n ≡ kind_number c))
+  of_three {a} e (inl f) = inl (of_kind e a f)
+  of_three {b} e (inr (inl f)) = inr (inl (of_kind e b f))
+  of_three {c} e (inr (inr f)) = inr (inr (of_kind e c f))
+
+  pub not_kind : {k : Kind} → r ≡ Ok k → (j : Kind) → (k ≡ j → ⊥) → n ≡ kind_number j → ⊥
+  not_kind e j f = eqb-false n (kind_number j) (other_number n r j d (λ h. f cc))
+
+  pub no_kind : {u : UnknownKind} → r ≡ Err u → (j : Kind) → n ≡ kind_number j → ⊥
+  no_kind e j = eqb-false n (kind_number j) (other_number n r j d (λ h. cc))
+
+-- the same where a tag of no kind counts as one
+pub kind_or : (n : ℕ) (r : Result Kind UnknownKind) (o : Kind) {k : Kind} → Decodes n r → k ≡ result_unwrap_or r o → (j : Kind) → (o ≡ j → ⊥) → k ≡ j → n ≡ kind_number j
+kind_or n (Ok x) o d e j other f = of_kind {r = Ok x} d refl j (sym e ∙ f)
+kind_or n (Err u) o d e j other f = absurd (other (sym e ∙ f))
+
+pub kind_other : (n : ℕ) (r : Result Kind UnknownKind) (o : Kind) {k : Kind} → Decodes n r → k ≡ result_unwrap_or r o → (j : Kind) → (k ≡ j → ⊥) → n ≡ kind_number j → ⊥
+kind_other n (Ok x) o d e j other = not_kind {r = Ok x} d refl j (λ f. other (e ∙ f))
+kind_other n (Err u) o d e j other = no_kind {r = Err u} d refl j

@@ -1,0 +1,5 @@
+use Rattle.scan.proofs.Digits.{Reading}
+use Rattle.scan.proofs.integers.value_of.Given as goal
+
+abbrev pub invariant-loop-x : goal.invariant-loop-x
+invariant-loop-x l = Reading l.digits l.base l.x-index l.value l.after_digit
