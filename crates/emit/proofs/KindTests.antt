@@ -1,7 +1,6 @@
 -- What a cell's kind says of its tag. Assumes nothing.
 use mathlib.Core.Logic.{◌⊎◌, inl, inr}
-use Rattle.std.specs.Result.{result_unwrap_or}
-use Rattle.std.proofs.Common.{◌≡◌, refl, sym, ◌∙◌, ℕ, Result, Ok, Err}
+use Rattle.std.proofs.Common.{◌≡◌, sym, ℕ, Result, Ok, Err}
 use Rattle.rules.specs.KindNumbers.{kind_number, Decodes}
 use Rattle.rules.specs.declared.kinds.Kind.{Kind}
 use Rattle.rules.specs.declared.kinds.UnknownKind.{UnknownKind}
@@ -22,12 +21,3 @@ module _ {n : ℕ} {r : Result Kind UnknownKind} (d : Decodes n r) where
 
   pub no_kind : {u : UnknownKind} → r ≡ Err u → (j : Kind) → n ≡ kind_number j → ⊥
   no_kind e j = eqb-false n (kind_number j) (other_number n r j d (λ h. cc))
-
--- the same where a tag of no kind counts as one
-pub kind_or : (n : ℕ) (r : Result Kind UnknownKind) (o : Kind) {k : Kind} → Decodes n r → k ≡ result_unwrap_or r o → (j : Kind) → (o ≡ j → ⊥) → k ≡ j → n ≡ kind_number j
-kind_or n (Ok x) o d e j other f = of_kind {r = Ok x} d refl j (sym e ∙ f)
-kind_or n (Err u) o d e j other f = absurd (other (sym e ∙ f))
-
-pub kind_other : (n : ℕ) (r : Result Kind UnknownKind) (o : Kind) {k : Kind} → Decodes n r → k ≡ result_unwrap_or r o → (j : Kind) → (k ≡ j → ⊥) → n ≡ kind_number j → ⊥
-kind_other n (Ok x) o d e j other = not_kind {r = Ok x} d refl j (λ f. other (e ∙ f))
-kind_other n (Err u) o d e j other = no_kind {r = Err u} d refl j

@@ -9,7 +9,9 @@ use Rattle.std.specs.Prelude.{Option, Some, None}
 use Rattle.std.specs.Option.{is_some}
 use Rattle.cells.specs.Reading.{cell_in, behind, Moves, Takes}
 use Rattle.cells.specs.declared.cell.Cell.{Cell}
-use Rattle.emit.specs.Sizes.{Sized, sized_at, HeldSize, LabelsSize, StatementSize, CompoundSize, ListSize, BranchesSize, GroupsSize}
+use Rattle.cells.specs.declared.reader.Reader.{Reader}
+use Rattle.emit.specs.declared.sizes.Size.{Size}
+use Rattle.emit.specs.Sizes.{Sized, sized_at, Ahead, HeldSize, LabelsSize, StatementSize, CompoundSize, ListSize, BranchesSize, GroupsSize}
 use Rattle.emit.proofs.SizeSums.{HeldDoes, LabelsDo, StatementDoes, CompoundDoes, ListDoes, BranchesDo, GroupsDo}
 
 -- what a function that reads a size promises, whole
@@ -61,3 +63,17 @@ module _ {a m : List ℕ} (e : a ≡ m) where
 
   pub groups_read : {levels : ℕ} {a' : List ℕ} {i j n : ℕ} → ReadsAt (λ a i. GroupsSize a i levels) a a' i j n → GroupsDo m i levels (sized_at j n)
   groups_read h = rw (← e) (record { fine = h.fine; means = h.means })
+
+-- parts that lie ahead
+module _ {m : List ℕ} {from : Reader} {size : Size} (e : from.memory.now ≡ m) where
+  pub labels_ahead : (h : Ahead LabelsSize from size) → LabelsDo m from.at (sized_at h.at size.0)
+  labels_ahead h = rw (← e) (record { fine = h.fine; means = h.means })
+
+  pub list_ahead : {levels : ℕ} (h : Ahead (λ a i. ListSize a i levels) from size) → ListDoes m from.at levels (sized_at h.at size.0)
+  list_ahead h = rw (← e) (record { fine = h.fine; means = h.means })
+
+  pub branches_ahead : {levels : ℕ} (h : Ahead (λ a i. BranchesSize a i levels) from size) → BranchesDo m from.at levels (sized_at h.at size.0)
+  branches_ahead h = rw (← e) (record { fine = h.fine; means = h.means })
+
+  pub groups_ahead : {levels : ℕ} (h : Ahead (λ a i. GroupsSize a i levels) from size) → GroupsDo m from.at levels (sized_at h.at size.0)
+  groups_ahead h = rw (← e) (record { fine = h.fine; means = h.means })

@@ -4,6 +4,9 @@ use mathlib.Core.List as L
 use Prim.Native.Nat.{ℕ, suc, ◌+◌, ◌≤◌}
 use native.Mathlib.Omega.{arith}
 use lib.ListN.{length}
+use Rattle.rules.specs.KindNumbers.{kind_number}
+use Rattle.rules.specs.declared.kinds.Kind.{Kind}
+use Rattle.rules.specs.declared.kinds.Kind.TheVariants.{If, Case, For, While, Repeat, Assign, Exit}
 use Rattle.rules.specs.Kinds.{BY, CASE, EXIT, FOR, IF, REPEAT, WHILE, ASSIGN}
 use Rattle.rules.specs.Bytes.{to_u}
 use Rattle.rules.specs.Core.{Stmt, assign, if, case, for, while, repeat, exit}
@@ -136,3 +139,18 @@ repeat-does {m} {at} {levels} {next = next} {n = n} {body = z} {condition = r} s
         told REPEAT sees (h ∙ t) (λ l c lies few.
         counts_done (counts_then (counts_then (counts_past REPEAT 0 0 past) (counts-list body l (omega arith))) (counts_held condition 0 c)) 4 _
         (add_on _ _ adds sums) (omega arith) (omega arith) lies) x l few
+
+-- a tag of no kind starts no statement
+pub known : (x : Stmt) → ((k : Kind) → head_s x ≡ kind_number k → ⊥) → ⊥
+unfolding head_s
+known (assign i e) none = none Assign refl
+known (if b) none = none If refl
+known (case e g) none = none Case refl
+known (for v a e s l) none = none For refl
+known (while c l) none = none While refl
+known (repeat l c) none = none Repeat refl
+known exit none = none Exit refl
+
+pub unknown-does : {m : L.List ℕ} {at levels tag next n : ℕ} → tag ≡ (cell_in m at).tag → ((k : Kind) → tag ≡ kind_number k → ⊥) → next ≡ behind m at
+    → CompoundDoes m at levels (record { at = next; size = n })
+unknown-does {m} {at} sees none past = record { fine = past_cell m at past; means = λ x some l few. absurd (known x (λ k t. none k (sees ∙ tag-statement x l ∙ t))) }

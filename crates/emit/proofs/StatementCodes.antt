@@ -5,6 +5,8 @@ use mathlib.Core.List.{[], ◌∷◌, ◌++◌}
 use Prim.Native.Nat.{ℕ, ◌+◌, ◌-◌, ◌/◌, ◌%◌, ◌≤◌}
 use native.Mathlib.Omega.{arith}
 use lib.ListN.{drop}
+use Rattle.rules.specs.KindNumbers.{kind_number}
+use Rattle.rules.specs.declared.kinds.Kind.{Kind}
 use Rattle.rules.specs.Kinds.{CASE, EXIT, FOR, IF, REPEAT, WHILE, ASSIGN}
 use Rattle.rules.specs.Core.{Stmt, assign, if, case, for, while, repeat, exit}
 use Rattle.rules.specs.Cells.{cell}
@@ -25,7 +27,7 @@ use Rattle.emit.proofs.Writing.{wrote_put}
 use Rattle.emit.proofs.CodeBytes.{put_tick, put_store}
 use Rattle.emit.proofs.CoreHeads.{head_s, nested, Arm, by_head}
 use Rattle.emit.proofs.SizeSums.{past_cell, onward, BranchesDo, GroupsDo}
-use Rattle.emit.proofs.SizeStatements.{repeats}
+use Rattle.emit.proofs.SizeStatements.{repeats, known}
 use Rattle.emit.proofs.PartsDone.{HeldDone, StatementDone, CompoundDone, BranchesDone, GroupsDone}
 use Rattle.emit.proofs.Following.{wrote_if, wrote_on, past_on, held_on}
 use Rattle.emit.proofs.Targets.{ahead_exact, size_exact, jump_to}
@@ -61,6 +63,17 @@ tag-apart (for v a e s l) = refl
 tag-apart (while c l) = refl
 tag-apart (repeat l c) = refl
 tag-apart exit = refl
+
+-- a statement's first cell has no place
+as_head : (x : Stmt) {head : Cell} {tag : ℕ} → tag ≡ head.tag → head ≡ head_of x → record { tag = tag; place = 0; datum = head.datum } ≡ head_of x
+unfolding head_of
+as_head (assign i e) t h = cc (t, h)
+as_head (if b) t h = cc (t, h)
+as_head (case e g) t h = cc (t, h)
+as_head (for v a e s l) t h = cc (t, h)
+as_head (while c l) t h = cc (t, h)
+as_head (repeat l c) t h = cc (t, h)
+as_head exit t h = cc (t, h)
 
 -- a statement's first cell is its own, so its tag tells the statement
 module _ (head : Cell) (P : Stmt → Type 0) where
@@ -103,14 +116,14 @@ module _ {m code code₁ : L.List ℕ} {p : Place} {head : Cell} {next ticked : 
   }
 
   -- one with lists: its lists are a level deeper
-  pub compound-code : {code₂ : L.List ℕ} {r : Place} {around : Around} {levels : ℕ} → (head.tag ≡ ASSIGN → ⊥) → (head.tag ≡ EXIT → ⊥) → (around.levels ≡ 0 → ⊥) → levels ≡ around.levels - 1
-      → CompoundDone head p.code (record { exit = around.exit; fors = around.fors; levels = levels }) m code₁ code₂ (record { at = next; code = ticked }) r
+  pub compound-code : {code₂ : L.List ℕ} {r : Place} {around : Around} {levels tag : ℕ} → (head.tag ≡ ASSIGN → ⊥) → (head.tag ≡ EXIT → ⊥) → (around.levels ≡ 0 → ⊥) → levels ≡ around.levels - 1 → tag ≡ head.tag
+      → CompoundDone (record { tag = tag; place = 0; datum = head.datum }) p.code (record { exit = around.exit; fors = around.fors; levels = levels }) m code₁ code₂ (record { at = next; code = ticked }) r
       → StatementDone around m code code₂ p r
-  compound-code {code₂} {around} a q z d w = record {
+  compound-code {code₂} {around} a q z d k w = record {
     fine = onward m _ _ _ (past_cell m p.at after) w.fine;
     means = behind_head (λ x h f g e.
         let t : head.tag ≡ head_s x = ap (λ (c : Cell). c.tag) h ∙ tag-apart x in
-        w.means x h (nested x (λ k. a (t ∙ k)) (λ k. q (t ∙ k))) f (omega arith) e);
+        w.means x (as_head x k h) (nested x (λ k. a (t ∙ k)) (λ k. q (t ∙ k))) f (omega arith) e);
   }
 
   -- none where no level is left
@@ -121,6 +134,13 @@ module _ {m code code₁ : L.List ℕ} {p : Place} {head : Cell} {next ticked : 
         let t : head.tag ≡ head_s x = ap (λ (c : Cell). c.tag) h ∙ tag-apart x in
         let n = nested x (λ k. a (t ∙ k)) (λ k. q (t ∙ k)) in
         absurd (omega arith));
+  }
+
+  -- none where the first cell is of no kind
+  pub unknown-code : {around : Around} → ((k : Kind) → head.tag ≡ kind_number k → ⊥) → StatementDone around m code code₁ p (record { at = next; code = ticked })
+  unknown-code none = record {
+    fine = past_cell m p.at after;
+    means = behind_head (λ x h f g e. absurd (known x (λ k t. none k (ap (λ (c : Cell). c.tag) h ∙ tag-apart x ∙ t))));
   }
 
 -- behind the first cell and the TICK of a statement with lists

@@ -24,6 +24,12 @@ sized_at at size = record { at = at; size = size }
 abbrev pub Reads : (L.List ℕ → ℕ → Sized → Type 0) → Reader → Reader → Size → Type 0
 Reads P old new size = record { same : new.memory.now ≡ old.memory.now; fine : Moves old.memory.now old.at new.at; means : P old.memory.now old.at (sized_at new.at size.0) }
 
+-- a part lies ahead of a reader: where it ends, and the size of its code
+pub record Ahead (P : L.List ℕ → ℕ → Sized → Type 0) (from : Reader) (size : Size) : Type 0 where
+  pub at : ℕ
+  pub fine : Moves from.memory.now from.at at
+  pub means : P from.memory.now from.at (sized_at at size.0)
+
 unfoldable pub capped : ℕ → ℕ
 capped n = min n 100000
 

@@ -43,6 +43,12 @@ pub(crate) struct Turn {
     pub step: u32,
 }
 
+// No instruction starts behind this offset: twice what code has, and far below where an offset overflows.
+const LAST_START: u32 = 16384;
+
+// No instruction has more bytes.
+const LONGEST_INSTRUCTION: usize = 16;
+
 // The code so far: what is written of the room that is lent for it.
 #[derive(Drop)]
 pub(crate) struct Code<'a> {
@@ -68,13 +74,13 @@ impl Code<'_> {
         self.at.saturating_add(size.0)
     }
 
-    // Whether there is room for an instruction: one has at most 16 bytes, and starts at an offset up to 16384.
+    // Whether there is room for an instruction, within both limits.
     #[tactic(auto, unfolding(crate::specs::Places::may_put, writing::specs::Puts::fits))]
     fn has_room(&self, instruction: &[u8]) -> bool
         ensures { result ≡ may_put self.now.bytes.now self.now.at instruction.now }
     {
-        self.at <= 16384
-            && instruction.len() <= 16
+        self.at <= LAST_START
+            && instruction.len() <= LONGEST_INSTRUCTION
             && self.at as usize + instruction.len() <= self.bytes.len()
     }
 

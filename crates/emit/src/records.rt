@@ -56,6 +56,9 @@ fn type_of(variable: Cell) -> Type
     }
 }
 
+// Statements are nested at most so deep.
+const LEVELS: u32 = 16;
+
 // The code: the statements', then HALT, to which EXIT outside every loop would lead.
 fn put_code(mut from: Reader, bytes: &mut [u8], size: u32)
     ensures { CodeWritten from.entry.memory.now bytes.old bytes.new from.entry.at size }
@@ -63,7 +66,7 @@ fn put_code(mut from: Reader, bytes: &mut [u8], size: u32)
     let around = Around {
         exit: size,
         fors: 0,
-        levels: 16,
+        levels: LEVELS,
     };
     let mut code = Code::new(bytes);
     code.list(&mut from, around);
@@ -99,8 +102,7 @@ pub(crate) fn finish(
     ensures { Finished memory.now end stated.depth stated.worst image.old image.new result }
 {
     let variables = count_variables(memory);
-    let mut further = variables.body;
-    let size = sizes::list(&mut further, 16).0;
+    let size = sizes::list_ahead(variables.body, LEVELS).0;
     if LONGEST < size {
         return Err(Refusal {
             fault: Fault::LongCode,

@@ -1,13 +1,16 @@
 // The sizes of the code of parts, before it is written: they do not depend on where it stands.
 ghost use Rattle.std.specs.Prelude.{◌≡◌, ◌+◌};
 ghost use Rattle.cells.specs.Reading.{cell_in};
-ghost use Rattle.emit.specs.Sizes.{item_size, jump_size, capped, Reads, HeldSize, LabelsSize, StatementSize, CompoundSize, ListSize, BranchesSize, GroupsSize};
+ghost use Rattle.emit.specs.Sizes.{item_size, jump_size, capped, Reads, Ahead, HeldSize, LabelsSize, StatementSize, CompoundSize, ListSize, BranchesSize, GroupsSize};
 
 use cells::{Cell, Reader};
 use rules::Kind;
 use std::ops::Add;
 
-// A size of code, counted no further than 100000, where 8192 is the most.
+// A size is counted no further: well above 8192, which is the most that code has.
+const MOST: u32 = 100000;
+
+// A size of code.
 #[derive(Clone, Copy)]
 pub(crate) struct Size(pub u32);
 
@@ -18,7 +21,7 @@ impl Add for Size {
 
     #[tactic(auto, unfolding(crate::specs::Sizes::capped))]
     fn add(self, other: Size) -> Size {
-        Size(self.0.saturating_add(other.0).min(100000))
+        Size(self.0.saturating_add(other.0).min(MOST))
     }
 }
 
@@ -52,7 +55,7 @@ pub(crate) fn held(from: &mut Reader) -> Size
 }
 
 // A SPAN and a jump for each label.
-pub(crate) fn labels(from: &mut Reader) -> Size
+fn labels(from: &mut Reader) -> Size
     ensures { Reads LabelsSize from.old from.new result }
 {
     let mut size = Size(0);
@@ -76,7 +79,7 @@ pub(crate) fn jump_size(from: &Reader) -> Size
 }
 
 #[cycle(branches_compound_groups_list_statement)]
-pub(crate) fn branches(from: &mut Reader, levels: u32) -> Size
+fn branches(from: &mut Reader, levels: u32) -> Size
     ensures { Reads (λ m i. BranchesSize m i levels) from.old from.new result }
 {
     let mut size = Size(0);
@@ -91,7 +94,7 @@ pub(crate) fn branches(from: &mut Reader, levels: u32) -> Size
 }
 
 #[cycle(branches_compound_groups_list_statement)]
-pub(crate) fn groups(from: &mut Reader, levels: u32) -> Size
+fn groups(from: &mut Reader, levels: u32) -> Size
     ensures { Reads (λ m i. GroupsSize m i levels) from.old from.new result }
 {
     let mut size = Size(0);
@@ -106,7 +109,10 @@ pub(crate) fn groups(from: &mut Reader, levels: u32) -> Size
 fn compound(from: &mut Reader, levels: u32) -> Size
     ensures { Reads (λ m i. CompoundSize m i levels) from.old from.new result }
 {
-    match from.read().kind().unwrap_or(Kind::Repeat) {
+    let Ok(kind) = from.read().kind() else {
+        return Size(0);
+    };
+    match kind {
         Kind::If => Size(1) + branches(from, levels),
         Kind::Case => Size(1) + held(from) + groups(from, levels),
         Kind::For => {
@@ -115,6 +121,7 @@ fn compound(from: &mut Reader, levels: u32) -> Size
             bounds + Size(24) + list(from, levels)
         }
         Kind::While => held(from) + Size(7) + list(from, levels),
+        // REPEAT: no other kind is left.
         _ => list(from, levels) + held(from) + Size(4),
     }
 }
@@ -146,4 +153,29 @@ pub(crate) fn list(from: &mut Reader, levels: u32) -> Size
         size = size + statement(from, levels);
     }
     size
+}
+
+// The same of parts that lie ahead of a reader, which stays where it is.
+pub(crate) fn labels_ahead(mut from: Reader) -> Size
+    ensures { Ahead LabelsSize from.entry result }
+{
+    labels(&mut from)
+}
+
+pub(crate) fn branches_ahead(mut from: Reader, levels: u32) -> Size
+    ensures { Ahead (λ m i. BranchesSize m i levels) from.entry result }
+{
+    branches(&mut from, levels)
+}
+
+pub(crate) fn groups_ahead(mut from: Reader, levels: u32) -> Size
+    ensures { Ahead (λ m i. GroupsSize m i levels) from.entry result }
+{
+    groups(&mut from, levels)
+}
+
+pub(crate) fn list_ahead(mut from: Reader, levels: u32) -> Size
+    ensures { Ahead (λ m i. ListSize m i levels) from.entry result }
+{
+    list(&mut from, levels)
 }

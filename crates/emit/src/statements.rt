@@ -1,11 +1,12 @@
 // The code of statements, appended; targets are computed from sizes, and nothing is changed afterwards.
 ghost use Rattle.std.specs.Prelude.{◌≡◌};
+ghost use Rattle.rules.specs.KindNumbers.{kind_number};
 ghost use Rattle.emit.specs.Places.{Emits, StatementCode, ListCode, BranchesCode, GroupsCode};
 ghost use Rattle.emit.specs.Compounds.{ForCode, WhileCode, RepeatCode, CompoundCode};
 
 use super::codes::{Code, Op, Turn};
 use super::sizes::{self, Size};
-use cells::{Cell, Reader};
+use cells::Reader;
 use rules::Kind;
 
 // What a statement's code needs to know of what is around: where EXIT leads, the enclosing FORs, and how many levels of nesting may still come.
@@ -31,7 +32,7 @@ impl Code<'_> {
             let other = self.ahead(Size(3) + size + leap);
             self.jump(Op::JumpZero, other);
             self.list(from, around);
-            if leap.0 == 3 {
+            if !from.is_at(Kind::EndIf) {
                 self.jump(Op::Jump, end);
             }
         }
@@ -47,12 +48,10 @@ impl Code<'_> {
         ensures writes { Emits (GroupsCode end around) from.old self.old from.new self.new }
     {
         while from.cell().is_label() {
-            let mut further = *from;
-            let tests = sizes::labels(&mut further);
+            let tests = sizes::labels_ahead(*from);
             let body = self.ahead(tests + Size(3));
             self.labels(from, body);
-            let mut further = *from;
-            let size = sizes::list(&mut further, around.levels);
+            let size = sizes::list_ahead(*from, around.levels);
             let other = self.ahead(size + Size(7));
             self.jump(Op::Jump, other);
             self.alone(Op::Drop);
@@ -77,8 +76,7 @@ impl Code<'_> {
             slot,
             step: by.datum,
         };
-        let mut further = *from;
-        let size = sizes::list(&mut further, around.levels);
+        let size = sizes::list_ahead(*from, around.levels);
         let top = self.ahead(Size(13));
         let end = self.ahead(size + Size(23));
         self.with_slot(Op::Hold, around.fors);
@@ -101,8 +99,7 @@ impl Code<'_> {
         ensures writes { Emits (WhileCode start around) from.old self.old from.new self.new }
     {
         self.held(from);
-        let mut further = *from;
-        let size = sizes::list(&mut further, around.levels);
+        let size = sizes::list_ahead(*from, around.levels);
         let exit = self.ahead(size + Size(6));
         self.jump(Op::JumpZero, exit);
         self.list(from, Around { exit, ..around });
@@ -124,28 +121,27 @@ impl Code<'_> {
         self.jump(Op::JumpZero, start);
     }
 
-    // IF, CASE and loops behind their first cell and their tick; the statement's code starts at `start`.
+    // IF, CASE and loops behind their first cell and their tick; the statement's code starts at `start`, and `slot` is a FOR's variable.
     #[cycle(branches_compound_for_loop_groups_list_repeat_loop_statement_while_loop)]
-    fn compound(&mut self, from: &mut Reader, head: Cell, start: u32, around: Around)
+    fn compound(&mut self, from: &mut Reader, kind: Kind, slot: u32, start: u32, around: Around)
         ensures same { self.new.bytes.ghost_name ≡ self.old.bytes.ghost_name }
-        ensures writes { Emits (CompoundCode head start around) from.old self.old from.new self.new }
+        ensures writes { Emits (CompoundCode (record { tag = kind_number kind; place = 0; datum = slot }) start around) from.old self.old from.new self.new }
     {
-        match head.kind().unwrap_or(Kind::Repeat) {
+        match kind {
             Kind::If => {
-                let mut further = *from;
-                let size = sizes::branches(&mut further, around.levels);
+                let size = sizes::branches_ahead(*from, around.levels);
                 let end = self.ahead(size);
                 self.branches(from, end, around)
             }
             Kind::Case => {
                 self.held(from);
-                let mut further = *from;
-                let size = sizes::groups(&mut further, around.levels);
+                let size = sizes::groups_ahead(*from, around.levels);
                 let end = self.ahead(size);
                 self.groups(from, end, around)
             }
-            Kind::For => self.for_loop(from, head.datum, around),
+            Kind::For => self.for_loop(from, slot, around),
             Kind::While => self.while_loop(from, start, around),
+            // REPEAT: no other kind is left.
             _ => self.repeat_loop(from, start, around),
         }
     }
@@ -159,17 +155,22 @@ impl Code<'_> {
         let start = self.at;
         let head = from.read();
         self.alone(Op::Tick);
-        if head.is(Kind::Assign) {
-            self.held(from);
-            self.with_slot(Op::Store, head.datum)
-        } else if head.is(Kind::Exit) {
-            self.jump(Op::Jump, around.exit)
-        } else if 0 < around.levels {
-            let inner = Around {
-                levels: around.levels - 1,
-                ..around
-            };
-            self.compound(from, head, start, inner)
+        let Ok(kind) = head.kind() else {
+            return;
+        };
+        match kind {
+            Kind::Assign => {
+                self.held(from);
+                self.with_slot(Op::Store, head.datum)
+            }
+            Kind::Exit => self.jump(Op::Jump, around.exit),
+            _ => if 0 < around.levels {
+                let inner = Around {
+                    levels: around.levels - 1,
+                    ..around
+                };
+                self.compound(from, kind, head.datum, start, inner)
+            },
         }
     }
 

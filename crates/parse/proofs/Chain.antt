@@ -45,7 +45,7 @@ module _ (f n least : ℕ) (a : Exp) (us : List Token) where
 level-ahead : (m : List ℕ) (s : Step) (us : List Token) → token_at m s ≡ seen (S.next us)
     → (operator_of (kind_at m s) operators).level ≡ (operator_of (S.next us).kind operators).level
 unfolding kind_at
-level-ahead m s us z = ap (λ t. (operator_of t.kind operators).level) z
+level-ahead m s us z = ap (λ t. (operator_of t.tag operators).level) z
 
 module _ (nesting least : ℕ) (m₁ : List ℕ) (s₁ : Step) where
   -- from its first operand's end at s₁ the chain has come to s: what ends `more` there, whatever was read so far, ends it here, whatever that operand is

@@ -21,12 +21,12 @@ use Rattle.parse.specs.Reading.{Ahead, Done, read, refusal, Did, reads, stays, n
 use Rattle.rules.specs.Answers.{fault_number}
 use Rattle.rules.specs.declared.compiling.Refusal.{Refusal}
 use Rattle.parse.specs.declared.parser.Parser.{Parser}
-use Rattle.parse.specs.declared.parser.Token as Code
+use Rattle.cells.specs.declared.cell.Cell.{Cell}
 use Rattle.parse.proofs.Cells.{sets_append, ahead_next, ahead_rest, ahead_end, kept, back}
 
 -- a token's numbers
-abbrev pub seen : Token → Code.Token
-seen t = record { kind = t.kind; place = t.place; datum = datum t }
+abbrev pub seen : Token → Cell
+seen t = record { tag = t.kind; place = t.place; datum = datum t }
 
 -- Reading began with the numbers m₀, free from at₀ on, and ends with the numbers mₑ at the step r, which is to mean what `encode` says.
 module _ (n : ℕ) (m₀ : List ℕ) (at₀ : ℕ) {B : Type 0} (encode : B → List ℕ) (mₑ : List ℕ) (r : Step) where
@@ -143,7 +143,7 @@ module _ {n : ℕ} {m₀ : List ℕ} {at₀ : ℕ} {B : Type 0} {encode : B → 
     module _ {v m : List ℕ} {s : Step} (a b : Reader B) where
       tested : (p : ℕ → Bool) (d : Bool) → p (kind_at m s) ≡ d → Ends n m₀ at₀ encode mₑ r v m s (λ us. pick d (λ _. a us) (λ _. b us)) → Ends n m₀ at₀ encode mₑ r v m s (whether p a b)
       unfolding whether kind_at
-      tested p d q e = looks {K = λ t us. pick (p t.kind) (λ _. a us) (λ _. b us)} s (λ t z. named (λ us. rw (← (ap (λ c. c.kind) z), q)) e)
+      tested p d q e = looks {K = λ t us. pick (p t.kind) (λ _. a us) (λ _. b us)} s (λ t z. named (λ us. rw (← (ap (λ c. c.tag) z), q)) e)
 
       pub passes : (p : ℕ → Bool) → p (kind_at m s) ≡ true → Ends n m₀ at₀ encode mₑ r v m s a → Ends n m₀ at₀ encode mₑ r v m s (whether p a b)
       passes p q e = tested p true q e

@@ -14,7 +14,7 @@ use Rattle.rules.specs.Cells.{datum, cell}
 use Rattle.parse.specs.Parts.{integer_cells}
 use Rattle.parse.specs.Reading.{Did, nothing}
 use Rattle.parse.specs.Steps.{count_of, free_of, token_at, Writes, Step}
-use Rattle.parse.specs.declared.parser.Token as Code
+use Rattle.cells.specs.declared.cell.Cell.{Cell}
 use Rattle.parse.proofs.Follow.{begin, named, looks, thens, writes, gives}
 
 -- a token with its datum as its value, as it is where it is an integer
@@ -37,7 +37,7 @@ integer_next us = go (eqb (S.next us).kind INT) (eqb-true (S.next us).kind INT)
     go false e = refl
 
 -- an integer is taken, and its cells are written
-pub integer-read : (sign place : ℕ) {m m₁ m₂ m₃ : List ℕ} {s s₁ s₂ r : Step} {t : Code.Token} → 3 * count_of s ≤ free_of s → t ≡ token_at m s → Did nothing m m₁ s s₁ (S.take INT)
+pub integer-read : (sign place : ℕ) {m m₁ m₂ m₃ : List ℕ} {s s₁ s₂ r : Step} {t : Cell} → 3 * count_of s ≤ free_of s → t ≡ token_at m s → Did nothing m m₁ s s₁ (S.take INT)
     → Writes (cell sign place 0) m₁ m₂ s₁ s₂ → Writes (cell INT t.place t.datum) m₂ m₃ s₂ r → Did (integer_cells sign place) m m₃ s r (S.take INT)
 unfolding integer_cells
 integer-read sign place {s} behind sees d w₁ w₂ =

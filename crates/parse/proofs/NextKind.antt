@@ -1,7 +1,7 @@
 -- The next token's kind, to the code and to the rules. Assumes nothing.
-use Rattle.std.specs.Prelude.{Some, None, Result, Ok, Err, MatchResult, nat_eq}
+use Rattle.std.specs.Prelude.{Some, None, Result, Ok, Err, MatchResult}
 use Rattle.std.specs.Result.{result_ok}
-use mathlib.Core.Path.{◌≡◌, refl, sym, ap, ◌∙◌}
+use mathlib.Core.Path.{◌≡◌, sym, ap, ◌∙◌}
 use mathlib.Core.Bool.{Bool, true, false}
 use mathlib.Core.List.{List}
 use Prim.Native.Nat.{ℕ, ◌≤◌, ◌<◌}
@@ -17,14 +17,14 @@ use Rattle.rules.specs.declared.compiling.Refusal.{Refusal}
 use Rattle.rules.specs.declared.kinds.Kind.{Kind}
 use Rattle.parse.specs.Steps.{token_at, kind_at, at, Sees, Meets, Begins, kind_ahead, Step}
 use Rattle.parse.specs.declared.parser.Parser.{Parser}
-use Rattle.parse.specs.declared.parser.Token as Code
+use Rattle.cells.specs.declared.cell.Cell.{Cell}
 use Rattle.parse.proofs.Follow.{seen}
 use Rattle.parse.proofs.Moves.{some-ahead}
 
 -- of the tokens that are left to the rules
 pub kind_left : (m : List ℕ) (s : Step) (us : List Token) → token_at m s ≡ seen (next us) → (next us).kind ≡ kind_at m s
 unfolding kind_at
-kind_left m s us e = ap (λ x. x.kind) (sym e)
+kind_left m s us e = ap (λ x. x.tag) (sym e)
 
 -- the kind and the place that the code has are those of the rules' next token
 pub kind-of : (m : List ℕ) (s : Step) {k : ℕ} → kind_at m s ≡ k → (us : List Token) → token_at m s ≡ seen (next us) → (next us).kind ≡ k
@@ -34,19 +34,19 @@ pub place_of : (m : List ℕ) (s : Step) {place : ℕ} → place ≡ (token_at m
 place_of m s here u z = here ∙ ap (λ x. x.place) z
 
 -- the code's test of the next token's kind
-pub sees : (p : Parser) (kind : Kind) {t : Code.Token} (k : ℕ) → t ≡ token_at p.memory.now (at p) → k ≡ kind_number kind → Sees p kind (nat_eq t.kind k)
+pub sees : (p : Parser) (kind : Kind) {t : Cell} {b : Bool} → t ≡ token_at p.memory.now (at p) → b ≡ eqb t.tag (kind_number kind) → Sees p kind b
 unfolding kind_at
-sees p kind {t} k e q = go (eqb t.kind k) refl
+sees p kind {t} {b} e q = go b q
   where
-    go : (b : Bool) → eqb t.kind k ≡ b → Sees p kind b
-    go true h = let is = ap (λ x. x.kind) (sym e) ∙ eqb-true t.kind k h ∙ q in (is, λ one. some-ahead p.memory.now p.count p.next p.free (omega (arith, is)))
-    go false h = λ is. eqb-false t.kind k h (ap (λ x. x.kind) e ∙ is ∙ sym q)
+    go : (b : Bool) → b ≡ eqb t.tag (kind_number kind) → Sees p kind b
+    go true h = let is = ap (λ x. x.tag) (sym e) ∙ eqb-true _ _ (sym h) in (is, λ one. some-ahead p.memory.now p.count p.next p.free (omega (arith, is)))
+    go false h = λ is. eqb-false _ _ (sym h) (ap (λ x. x.tag) e ∙ is)
 
 -- the next token's kind by its number; or none has it
-pub meets : (p : Parser) {t : Code.Token} (kind : Kind) → t ≡ token_at p.memory.now (at p) → kind_number kind ≡ t.kind → Meets p (Ok kind)
+pub meets : (p : Parser) {t : Cell} (kind : Kind) → t ≡ token_at p.memory.now (at p) → kind_number kind ≡ t.tag → Meets p (Ok kind)
 unfolding kind_at
 meets p {t} kind e d =
-    let is = ap (λ x. x.kind) (sym e) ∙ sym d in
+    let is = ap (λ x. x.tag) (sym e) ∙ sym d in
     ((is, λ one. some-ahead p.memory.now p.count p.next p.free (omega (arith, is))), omega (arith, is, small kind))
 
 -- the code's test of the next token's kind, by what such kinds are: not that of the end, and none whose number is no kind's

@@ -23,7 +23,7 @@ use Rattle.rules.specs.Cells.{WHOLE, UNARY, BINARY, cell, datum, name_cell, trut
 use Rattle.parse.specs.Steps.{count_of, free_of, token_at, kind_at, Skips, Writes, Step, At, Bad}
 use Rattle.parse.specs.Reading.{Did, reads, stays, nothing}
 use Rattle.parse.specs.Parts.{prefix_code, in_parens, right, right_cells}
-use Rattle.parse.specs.declared.parser.Token as Code
+use Rattle.cells.specs.declared.cell.Cell.{Cell}
 use Rattle.parse.proofs.Cells.{ahead_next}
 use Rattle.parse.proofs.NextKind.{kind_left, kind-of, place_of}
 use Rattle.parse.proofs.Follow.{seen, begin, bind, thens, looks, knows, skips, skips_on, writes, under, over, unexpects, gives}
@@ -154,27 +154,27 @@ module _ {m mₑ : List ℕ} {s r : Step} (behind : 3 * count_of s ≤ free_of s
         (skips behind q (λ t z. writes behind k place d w (gives (make t) (same t z)))))
 
     -- a name or an integer
-    pub reads_word : (exp : Reader Exp) (t : Code.Token) (kind : Kind) {m₁ : List ℕ} {s₁ : Step} → t ≡ token_at m s → kind_at m s ≡ kind_number kind → (kind ≡ Name) ⊎ (kind ≡ Int)
+    pub reads_word : (exp : Reader Exp) (t : Cell) (kind : Kind) {m₁ : List ℕ} {s₁ : Step} → t ≡ token_at m s → kind_at m s ≡ kind_number kind → (kind ≡ Name) ⊎ (kind ≡ Int)
         → Skips m m₁ s s₁ → Writes (cell (kind_number kind) t.place t.datum) m₁ mₑ s₁ r → Did exp_cells m mₑ s r (operand nesting exp)
     unfolding kind_at
     reads_word exp t kind met is (inl e) q w =
         let k = ap kind_number e in
         leaf-read exp _ t.place t.datum is q w (λ us z. of_name nesting exp us (z ∙ k))
-        (λ u z. rw (met ∙ z, ← (sym (ap (λ x. x.kind) z) ∙ is)) (name-cell u (sym (ap (λ x. x.kind) z) ∙ is ∙ k)))
+        (λ u z. rw (met ∙ z, ← (sym (ap (λ x. x.tag) z) ∙ is)) (name-cell u (sym (ap (λ x. x.tag) z) ∙ is ∙ k)))
     reads_word exp t kind met is (inr e) q w =
         let k = ap kind_number e in
         leaf-read exp _ t.place t.datum is q w (λ us z. of_integer nesting exp us (z ∙ k))
-        (λ u z. rw (met ∙ z, ← (sym (ap (λ x. x.kind) z) ∙ is)) (integer-cell u (sym (ap (λ x. x.kind) z) ∙ is ∙ k)))
+        (λ u z. rw (met ∙ z, ← (sym (ap (λ x. x.tag) z) ∙ is)) (integer-cell u (sym (ap (λ x. x.tag) z) ∙ is ∙ k)))
 
-    truly : (exp : Reader Exp) (t : Code.Token) {k : ℕ} {m₁ : List ℕ} {s₁ : Step} (b : Bool) → t ≡ token_at m s → kind_at m s ≡ k → k ≡ truth_kind b
+    truly : (exp : Reader Exp) (t : Cell) {k : ℕ} {m₁ : List ℕ} {s₁ : Step} (b : Bool) → t ≡ token_at m s → kind_at m s ≡ k → k ≡ truth_kind b
         → Skips m m₁ s s₁ → Writes (cell k t.place 0) m₁ mₑ s₁ r → Did exp_cells m mₑ s r (operand nesting exp)
     unfolding kind_at
     truly exp t b met is k q w =
         leaf-read exp _ t.place 0 is q w (λ us z. of_truth nesting exp us b (z ∙ k))
-        (λ u z. rw (met ∙ z, ← (sym (ap (λ x. x.kind) z) ∙ is)) (truth-cell u b (sym (ap (λ x. x.kind) z) ∙ is ∙ k)))
+        (λ u z. rw (met ∙ z, ← (sym (ap (λ x. x.tag) z) ∙ is)) (truth-cell u b (sym (ap (λ x. x.tag) z) ∙ is ∙ k)))
 
     -- TRUE or FALSE
-    pub reads-truth : (exp : Reader Exp) (t : Code.Token) (kind : Kind) {m₁ : List ℕ} {s₁ : Step} → t ≡ token_at m s → kind_at m s ≡ kind_number kind → (kind ≡ True) ⊎ (kind ≡ False)
+    pub reads-truth : (exp : Reader Exp) (t : Cell) (kind : Kind) {m₁ : List ℕ} {s₁ : Step} → t ≡ token_at m s → kind_at m s ≡ kind_number kind → (kind ≡ True) ⊎ (kind ≡ False)
         → Skips m m₁ s s₁ → Writes (cell (kind_number kind) t.place 0) m₁ mₑ s₁ r → Did exp_cells m mₑ s r (operand nesting exp)
     unfolding truth_kind
     reads-truth exp t kind met is (inl e) q w = truly exp t true met is (ap kind_number e) q w
@@ -205,11 +205,11 @@ module _ {m mₑ : List ℕ} {s r : Step} (behind : 3 * count_of s ≤ free_of s
     unfolding right_cells kind_at
     reads_right f place level code here l q skip d w =
         begin
-        (knows behind (λ us z. of_level f nesting level us (l ∙ ap (λ t. (operator_of t.kind operators).level) z))
+        (knows behind (λ us z. of_level f nesting level us (l ∙ ap (λ t. (operator_of t.tag operators).level) z))
         (skips behind skip (λ t z.
         bind behind (truth 0 true) d (λ x.
         writes behind BINARY place code w
-        (gives (record { operator = t; operand = x }) (rw (q, place_of m s here t z, ap (λ t. t.kind) z)))))))
+        (gives (record { operator = t; operand = x }) (rw (q, place_of m s here t z, ap (λ t. t.tag) z)))))))
 
 -- no operand: by another kind, or by a number that no kind has; parentheses that are nested too deep
 module _ {m : List ℕ} {n j a : ℕ} {r : Step} (behind : 3 * n ≤ a) (nesting : ℕ) (exp : Reader Exp) where

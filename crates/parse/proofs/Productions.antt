@@ -19,7 +19,7 @@ use Rattle.rules.specs.Cells.{cell, name_cell, whole_cells, maybe_cells, labels_
 use Rattle.parse.specs.Steps.{count_of, free_of, token_at, kind_at, Skips, Writes, Step, At, Bad}
 use Rattle.parse.specs.Reading.{Did, reads, stays, nothing}
 use Rattle.parse.specs.Parts.{compound, element, element_cells, one_condition, condition_cells, one_labelled, labelled_cells, otherwise, otherwise_cells, conditions}
-use Rattle.parse.specs.declared.parser.Token.{Token}
+use Rattle.cells.specs.declared.cell.Cell.{Cell}
 use Rattle.parse.proofs.Names.{name_for, name-datum, name-taken}
 use Rattle.parse.proofs.Follow.{Ends, on, off, begin, gives, named, bind, thens, looks, skips, skips_on, writes, is, isn't, under, over}
 
@@ -37,7 +37,7 @@ heads : {n at₀ : ℕ} {m₀ m m' m₁ mₑ v : List ℕ} {B : Type 0} {encode 
 heads tag behind e w k = skips_on behind e (writes behind tag 0 0 w k)
 
 -- a name, in a cell with this tag
-pub named-means : (tag : ℕ) {m₀ m₁ m₂ : List ℕ} {s s₁ r : Step} {t : Token} → 3 * count_of s ≤ free_of s → t ≡ token_at m₀ s
+pub named-means : (tag : ℕ) {m₀ m₁ m₂ : List ℕ} {s s₁ r : Step} {t : Cell} → 3 * count_of s ≤ free_of s → t ≡ token_at m₀ s
     → Did nothing m₀ m₁ s s₁ (take NAME) → Writes (cell tag t.place t.datum) m₁ m₂ s₁ r → Did (name_cell tag) m₀ m₂ s r take_name
 unfolding name_cell name_for
 named-means tag {s} behind sees name w =

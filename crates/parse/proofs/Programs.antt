@@ -12,7 +12,7 @@ use Rattle.rules.specs.Cells.{cell, end_cell, name_cell, maybe_cells, list_cells
 use Rattle.parse.specs.Steps.{count_of, left_of, free_of, token_at, kind_at, Writes, Skips, Step, Bad}
 use Rattle.parse.specs.Reading.{Did, DidWith, nothing}
 use Rattle.parse.specs.Parts.{declared_type, type_cell}
-use Rattle.parse.specs.declared.parser.Token as Code
+use Rattle.cells.specs.declared.cell.Cell.{Cell}
 use Rattle.parse.proofs.Follow.{Ends, begin, gives, bind, thens, knows, skips_on, writes, is, isn't}
 use Rattle.parse.proofs.Loops.{Loops, loops_step, loops-refused}
 use Rattle.parse.proofs.Names.{takes-name, passes-name}
@@ -35,7 +35,7 @@ module _ {m : List ℕ} {s : Step} (behind : 3 * count_of s ≤ free_of s) where
 
   -- A declaration; x is the name's token
 
-  pub declares : {x : Code.Token} {m₁ m₂ m₃ m₄ m₅ : List ℕ} {s₁ s₂ s₃ s₄ r : Step} → x ≡ token_at m s
+  pub declares : {x : Cell} {m₁ m₂ m₃ m₄ m₅ : List ℕ} {s₁ s₂ s₃ s₄ r : Step} → x ≡ token_at m s
       → Did nothing m m₁ s s₁ (take NAME) → Did nothing m₁ m₂ s₁ s₂ (take COLON) → Did (type_cell x.place x.datum) m₂ m₃ s₂ s₃ declared_type
       → Did maybe_cells m₃ m₄ s₃ s₄ (maybe ASSIGN) → Did nothing m₄ m₅ s₄ r (take SEMI) → Did decl_cells m m₅ s r declaration
   unfolding declaration declared_type type_cell decl_cells name_cell
@@ -54,7 +54,7 @@ module _ {m : List ℕ} {s : Step} (behind : 3 * count_of s ≤ free_of s) where
   unfolding declarations when kind_at ◌>>=◌ decls_cells
   declares_more so sees d on =
       loops_step decls_cells declarations 1 1 m s behind w decl_cells (λ g. declaration) ◌∷◌ (λ x xs. refl) so
-      (λ g us z. rw (eq-eqb _ _ (sym (ap (λ c. c.kind) z) ∙ sees))) (λ g h. d) (omega arith)
+      (λ g us z. rw (eq-eqb _ _ (sym (ap (λ c. c.tag) z) ∙ sees))) (λ g h. d) (omega arith)
     where
       w : Decl
       w = record { name = record { place = 0; letters = [] }; type = bool; init = none }
@@ -72,7 +72,7 @@ module _ {m : List ℕ} {s : Step} (behind : 3 * count_of s ≤ free_of s) where
           → 1 * left_of s₁ + 1 ≤ g → Ends (count_of s) m (free_of s) decls_cells mₑ r v m₁ s₁ (◌>>=◌ (declarations g) (λ x. give (wrap x)))
       ended v wrap q zero b = absurd (omega arith)
       ended v wrap q (suc g) b =
-          knows behind (λ us z. rw (ne_eqb _ _ (λ e. other (ap (λ c. c.kind) z ∙ e))))
+          knows behind (λ us z. rw (ne_eqb _ _ (λ e. other (ap (λ c. c.tag) z ∙ e))))
           (writes behind FINISH 0 0 w (gives (wrap []) (q [])))
 
   -- Variables

@@ -10,7 +10,7 @@ use Rattle.rules.specs.declared.compiling.Fault.TheVariants.{Unexpected}
 use Rattle.rules.specs.declared.compiling.Refusal.{Refusal}
 use Rattle.rules.specs.declared.kinds.Kind.{Kind}
 use Rattle.parse.specs.declared.parser.Parser.{Parser}
-use Rattle.parse.specs.declared.parser.Token.{Token}
+use Rattle.cells.specs.declared.cell.Cell.{Cell}
 
 -- of so many tokens at this one, with these numbers free; or refused, by this number of the list and at this place
 pub data Step : Type 0 where
@@ -71,12 +71,12 @@ Moves more old result new =
     × (room_of (after result new) ≤ room_of (at old) + more)
 
 -- the numbers of the next token; zeros behind the last and after a refusal
-unfoldable pub token_at : List ℕ → Step → Token
-token_at m (At n j a) = record { kind = get_or (take (3 * n) m) (3 * j) 0; place = get_or (take (3 * n) m) (3 * j + 1) 0; datum = get_or (take (3 * n) m) (3 * j + 2) 0 }
-token_at m (Bad x p) = record { kind = 0; place = 0; datum = 0 }
+unfoldable pub token_at : List ℕ → Step → Cell
+token_at m (At n j a) = record { tag = get_or (take (3 * n) m) (3 * j) 0; place = get_or (take (3 * n) m) (3 * j + 1) 0; datum = get_or (take (3 * n) m) (3 * j + 2) 0 }
+token_at m (Bad x p) = record { tag = 0; place = 0; datum = 0 }
 
 unfoldable pub kind_at : List ℕ → Step → ℕ
-kind_at m s = (token_at m s).kind
+kind_at m s = (token_at m s).tag
 
 -- past the next token
 unfoldable pub skipped : Step → Step

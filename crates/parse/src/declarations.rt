@@ -7,13 +7,14 @@ ghost use Rattle.parse.specs.Steps.{Fits, Stays, Moves};
 ghost use Rattle.parse.specs.Reading.{Reads, ReadsWith};
 ghost use Rattle.parse.specs.Parts.{declared_type, type_cell};
 
-use super::parser::{Parser, Token};
+use super::parser::Parser;
 use super::statements::Nesting;
+use cells::Cell;
 use rules::{Kind, Refusal};
 
 impl Parser<'_> {
     // The type, as the tag of the name's cell.
-    fn declared_type(&mut self, name: Token) -> Result<(), Refusal>
+    fn declared_type(&mut self, name: Cell) -> Result<(), Refusal>
         requires { Fits 0 self.old }
         ensures stays { Stays self.old self.new }
         ensures fine { Moves 0 self.old result self.new }

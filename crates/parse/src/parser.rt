@@ -6,15 +6,8 @@ ghost use Rattle.rules.specs.Syntax.{take};
 ghost use Rattle.parse.specs.Steps.{at, Fits, Stays, Moves, Writes, Skips, token_at, place_ahead, Sees, Meets};
 ghost use Rattle.parse.specs.Reading.{nothing, Reads};
 
+use cells::Cell;
 use rules::{Fault, Kind, Refusal};
-
-// The number of a token's kind, its place, and a name's length or an integer's value.
-#[derive(Clone, Copy)]
-pub(crate) struct Token {
-    pub kind: u32,
-    pub place: u32,
-    pub datum: u32,
-}
 
 // Lent numbers: the tokens, three numbers each, and behind them the tree as far as it is written. That it may go on stands in each contract
 // (`Fits`), since a struct that holds a `&mut` takes no ghost field.
@@ -30,24 +23,20 @@ pub(crate) struct Parser<'a> {
 }
 
 impl Parser<'_> {
-    // The next token; zeros behind the last.
-    pub(crate) fn token(&self) -> Token
+    // The next token: its kind's number, its place, and a name's length or an integer's value; zeros behind the last.
+    pub(crate) fn token(&self) -> Cell
         requires { Fits 0 self.now }
         ensures { result ≡ token_at self.now.memory.now (at self.now) }
     {
         if self.next < self.count {
             let first = 3 * self.next;
-            return Token {
-                kind: self.memory[first],
+            return Cell {
+                tag: self.memory[first],
                 place: self.memory[first + 1],
                 datum: self.memory[first + 2],
             };
         }
-        Token {
-            kind: 0,
-            place: 0,
-            datum: 0,
-        }
+        Cell::default()
     }
 
     // The next token's kind. A number that stands for none is unexpected.
@@ -55,7 +44,7 @@ impl Parser<'_> {
         requires { Fits 0 self.now }
         ensures { Meets self.now result }
     {
-        let Ok(kind) = Kind::try_from(self.token().kind) else {
+        let Ok(kind) = self.token().kind() else {
             return Err(self.refusal(Fault::Unexpected));
         };
         Ok(kind)
@@ -65,7 +54,7 @@ impl Parser<'_> {
         requires { Fits 0 self.now }
         ensures { Sees self.now kind result }
     {
-        self.token().kind == kind.number()
+        self.token().is(kind)
     }
 
     // Past the next token.

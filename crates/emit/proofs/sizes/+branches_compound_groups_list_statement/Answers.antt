@@ -2,12 +2,12 @@ use mathlib.Core.Path.{refl, sym, ap, ◌∙◌}
 use native.Mathlib.Omega.{arith}
 use Rattle.std.proofs.lemmas.Bool.{eqb-true, eqb-false}
 use Rattle.rules.specs.Kinds.{FINISH, ELSE, THEN, ASSIGN, EXIT}
-use Rattle.rules.specs.declared.kinds.Kind.TheVariants.{If, Case, For, While, Repeat}
-use Rattle.emit.proofs.KindTests.{kind_or, kind_other}
+use Rattle.rules.specs.declared.kinds.Kind.TheVariants.{If, Case, For, While}
+use Rattle.emit.proofs.KindTests.{of_kind, not_kind, no_kind}
 use Rattle.emit.proofs.Readers.{stayed, taken, tag_of, seen, unseen, held_read, labels_read, statement_read, compound_read, list_read, branches_read, groups_read}
 use Rattle.emit.proofs.SizeSums.{fewer}
 use Rattle.emit.proofs.SizeLists.{list_start, list-turn, list_done, branches_start, branch-moves, branches-turn, branches_else, branches_done, groups_start, label-ahead, group-moves, groups-turn, groups_done}
-use Rattle.emit.proofs.SizeStatements.{assign-does, exit-does, none_left, compound-does, if_does, case-does, for_does, while_does, repeat-does}
+use Rattle.emit.proofs.SizeStatements.{assign-does, exit-does, none_left, compound-does, if_does, case-does, for_does, while_does, repeat-does, unknown-does}
 use Rattle.emit.proofs.sizes.+branches_compound_groups_list_statement.Goals as goal
 
 -- IF's branches
@@ -60,14 +60,14 @@ branches-returns-else-is t c =
 pub compound-returns-in-If : goal.compound-returns-in-If
 compound-returns-in-If t c =
     let a = c.read.ensures in
-    let d = if_does (ap (λ c. c.tag) a.gives) (kind_or _ _ Repeat c.kind.ensures c.unwrap_or.ensures If (λ e. cc) c.in-If.is) a.moves (branches_read a.same c.branches.ensures) c.add.ensures in
+    let d = if_does (ap (λ c. c.tag) a.gives) (of_kind c.kind.ensures c.in-Ok.is If c.in-If.is) a.moves (branches_read a.same c.branches.ensures) c.add.ensures in
     record { same = c.branches.ensures.same ∙ a.same; fine = d.fine; means = d.means }
 
 pub compound-returns-in-Case : goal.compound-returns-in-Case
 compound-returns-in-Case t c =
     let a = c.read.ensures in
     let b = c.held.ensures.same ∙ a.same in
-    let d = case-does (ap (λ c. c.tag) a.gives) (kind_or _ _ Repeat c.kind.ensures c.unwrap_or.ensures Case (λ e. cc) c.in-Case.is) a.moves (held_read a.same c.held.ensures) (groups_read b c.groups.ensures)
+    let d = case-does (ap (λ c. c.tag) a.gives) (of_kind c.kind.ensures c.in-Ok.is Case c.in-Case.is) a.moves (held_read a.same c.held.ensures) (groups_read b c.groups.ensures)
     c.add-in-Case.ensures c.add-in-Case-2.ensures in
     record { same = c.groups.ensures.same ∙ b; fine = d.fine; means = d.means }
 
@@ -77,7 +77,7 @@ compound-returns-in-For t c =
     let b = c.held-in-For.ensures.same ∙ a.same in
     let e = c.held-in-For-2.ensures.same ∙ b in
     let f = c.read-in-For.ensures.same ∙ e in
-    let d = for_does (ap (λ c. c.tag) a.gives) (kind_or _ _ Repeat c.kind.ensures c.unwrap_or.ensures For (λ e. cc) c.in-For.is) a.moves (held_read a.same c.held-in-For.ensures) (held_read b c.held-in-For-2.ensures)
+    let d = for_does (ap (λ c. c.tag) a.gives) (of_kind c.kind.ensures c.in-Ok.is For c.in-For.is) a.moves (held_read a.same c.held-in-For.ensures) (held_read b c.held-in-For-2.ensures)
     (rw e at c.read-in-For.ensures.moves) (list_read f c.list.ensures) c.add-bounds.ensures c.add-in-For.ensures c.add-in-For-2.ensures in
     record { same = c.list.ensures.same ∙ f; fine = d.fine; means = d.means }
 
@@ -85,19 +85,25 @@ pub compound-returns-in-While : goal.compound-returns-in-While
 compound-returns-in-While t c =
     let a = c.read.ensures in
     let b = c.held-in-While.ensures.same ∙ a.same in
-    let d = while_does (ap (λ c. c.tag) a.gives) (kind_or _ _ Repeat c.kind.ensures c.unwrap_or.ensures While (λ e. cc) c.in-While.is) a.moves (held_read a.same c.held-in-While.ensures) (list_read b c.list-in-While.ensures)
+    let d = while_does (ap (λ c. c.tag) a.gives) (of_kind c.kind.ensures c.in-Ok.is While c.in-While.is) a.moves (held_read a.same c.held-in-While.ensures) (list_read b c.list-in-While.ensures)
     c.add-in-While.ensures c.add-in-While-2.ensures in
     record { same = c.list-in-While.ensures.same ∙ b; fine = d.fine; means = d.means }
+
+pub compound-returns-in_default-kind : goal.compound-returns-in_default-kind
+compound-returns-in_default-kind t c =
+    let a = c.read.ensures in
+    let b = c.list-in_default-kind.ensures.same ∙ a.same in
+    let other = not_kind c.kind.ensures c.in-Ok.is in
+    let no = c.in_default-kind in
+    let d = repeat-does (ap (λ c. c.tag) a.gives) (other If no.not-If) (other Case no.not-Case) (other For no.not-For) (other While no.not-While) a.moves
+    (list_read a.same c.list-in_default-kind.ensures) (held_read b c.held-in_default-kind.ensures) c.add-in_default-kind.ensures c.add-in_default-kind-2.ensures in
+    record { same = c.held-in_default-kind.ensures.same ∙ b; fine = d.fine; means = d.means }
 
 pub compound-returns-in_default : goal.compound-returns-in_default
 compound-returns-in_default t c =
     let a = c.read.ensures in
-    let b = c.list-in_default.ensures.same ∙ a.same in
-    let other = kind_other _ _ Repeat c.kind.ensures c.unwrap_or.ensures in
-    let no = c.in_default in
-    let d = repeat-does (ap (λ c. c.tag) a.gives) (other If no.not-If) (other Case no.not-Case) (other For no.not-For) (other While no.not-While) a.moves
-    (list_read a.same c.list-in_default.ensures) (held_read b c.held-in_default.ensures) c.add-in_default.ensures c.add-in_default-2.ensures in
-    record { same = c.held-in_default.ensures.same ∙ b; fine = d.fine; means = d.means }
+    let d = unknown-does (ap (λ c. c.tag) a.gives) (no_kind c.kind.ensures c.in_default.is) a.moves in
+    record { same = a.same; fine = d.fine; means = d.means }
 
 -- CASE's groups
 

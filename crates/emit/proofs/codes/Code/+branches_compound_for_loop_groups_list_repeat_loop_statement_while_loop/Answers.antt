@@ -1,14 +1,16 @@
 use mathlib.Core.Path.{refl, sym, ap, ◌∙◌}
 use native.Mathlib.Omega.{arith}
 use Rattle.std.proofs.lemmas.Bool.{eqb-true, eqb-false}
-use Rattle.rules.specs.Kinds.{FINISH, ELSE, THEN, ASSIGN, EXIT}
-use Rattle.rules.specs.declared.kinds.Kind.TheVariants.{If, Case, For, While, Repeat}
-use Rattle.emit.proofs.KindTests.{kind_or, kind_other}
-use Rattle.emit.proofs.Readers.{tag_of, stayed, taken, held_read, labels_read, list_read, branches_read, groups_read}
+use Rattle.rules.specs.Kinds.{FINISH, ELSE, END_IF, THEN}
+use Rattle.rules.specs.KindNumbers.{kind_number}
+use Rattle.rules.proofs.KindLaws.{one_kind}
+use Rattle.rules.specs.declared.kinds.Kind.TheVariants.{If, Case, For, While, Assign, Exit}
+use Rattle.emit.proofs.KindTests.{of_kind, not_kind, no_kind}
+use Rattle.emit.proofs.Readers.{tag_of, seen, unseen, stayed, taken, held_read, list_read, labels_ahead, list_ahead, branches_ahead, groups_ahead}
 use Rattle.emit.proofs.SizeSums.{fewer}
 use Rattle.emit.proofs.PartsDone.{held_did, labels_did, statement_did, list_did, branches_did, groups_did, compound_did}
 use Rattle.emit.proofs.LoopCodes.{for_code, while_code, repeat-code}
-use Rattle.emit.proofs.StatementCodes.{assign-code, exit-code, compound-code, deep-code, if_code, case-code, for_arm, while_arm, repeat-arm}
+use Rattle.emit.proofs.StatementCodes.{assign-code, exit-code, compound-code, deep-code, if_code, case-code, for_arm, while_arm, repeat-arm, unknown-code}
 use Rattle.emit.proofs.CodeTurns.{turned_none, turned_on, turned_done, list-turn, list_last, leapt-jump, leapt-none, branch_less, branch-turn, else_last, none_last, group_less, group-turn, other_last}
 use Rattle.emit.proofs.codes.Code.+branches_compound_for_loop_groups_list_repeat_loop_statement_while_loop.Goals as goal
 
@@ -17,25 +19,26 @@ use Rattle.emit.proofs.codes.Code.+branches_compound_for_loop_groups_list_repeat
 pub branches-loop-self-init : goal.branches-loop-self-init
 branches-loop-self-init t c = record { same = refl; core = refl; turned = turned_none _ _ }
 
-pub branches-loop-self-smaller-then-leap-eq3 : goal.branches-loop-self-smaller-then-leap-eq3
-branches-loop-self-smaller-then-leap-eq3 t c =
+pub branches-loop-self-smaller-then-not-is_at : goal.branches-loop-self-smaller-then-not-is_at
+branches-loop-self-smaller-then-not-is_at t c =
     let then = c.in-Some.ensures.takes in
     let a = c.next_if.ensures.same in
     let b = c.held.ensures.writes.core ∙ a in
     rw (c.list.ensures.writes.core ∙ b) (branch_less _ _ _ _ refl (eqb-true _ THEN then.0) then.2 (held_did c.held.ensures.writes a).fine (list_did c.list.ensures.writes b).fine)
 
-pub branches-loop-self-preserved-then-leap-eq3 : goal.branches-loop-self-preserved-then-leap-eq3
-branches-loop-self-preserved-then-leap-eq3 t c =
+pub branches-loop-self-preserved-then-not-is_at : goal.branches-loop-self-preserved-then-not-is_at
+branches-loop-self-preserved-then-not-is_at t c =
     let i = c.loop-self.invariant in
     let then = rw i.core at c.in-Some.ensures.takes in
     let a = c.next_if.ensures.same ∙ i.core in
     let b = c.held.ensures.writes.core ∙ a in
+    let d = c.list.ensures.writes.core ∙ b in
     record {
-      same = c.jump-then-leap-eq3.ensures.same ∙ c.list.ensures.same ∙ c.jump.ensures.same ∙ c.held.ensures.same ∙ i.same;
-      core = c.list.ensures.writes.core ∙ b;
+      same = c.jump-then-not-is_at.ensures.same ∙ c.list.ensures.same ∙ c.jump.ensures.same ∙ c.held.ensures.same ∙ i.same;
+      core = d;
       turned = turned_on i.turned (branch-turn refl (eqb-true _ THEN then.0) then.2 (held_did c.held.ensures.writes a) (list_read b c.list-size.ensures)
           (rw (c.list-size.ensures.same ∙ b) at c.jump_size-leap.ensures) c.add.ensures c.add-in-Some.ensures c.ahead-other.ensures c.jump.ensures.puts (list_did c.list.ensures.writes b)
-          (leapt-jump c.if-leap-eq3.true c.jump-then-leap-eq3.ensures.puts));
+          (leapt-jump (unseen d _ END_IF c.is_at.ensures c.if-not-is_at.true) c.jump-then-not-is_at.ensures.puts));
     }
 
 pub branches-loop-self-smaller : goal.branches-loop-self-smaller
@@ -51,12 +54,13 @@ branches-loop-self-preserved t c =
     let then = rw i.core at c.in-Some.ensures.takes in
     let a = c.next_if.ensures.same ∙ i.core in
     let b = c.held.ensures.writes.core ∙ a in
+    let d = c.list.ensures.writes.core ∙ b in
     record {
       same = c.list.ensures.same ∙ c.jump.ensures.same ∙ c.held.ensures.same ∙ i.same;
-      core = c.list.ensures.writes.core ∙ b;
+      core = d;
       turned = turned_on i.turned (branch-turn refl (eqb-true _ THEN then.0) then.2 (held_did c.held.ensures.writes a) (list_read b c.list-size.ensures)
           (rw (c.list-size.ensures.same ∙ b) at c.jump_size-leap.ensures) c.add.ensures c.add-in-Some.ensures c.ahead-other.ensures c.jump.ensures.puts (list_did c.list.ensures.writes b)
-          (leapt-none c.if-leap-eq3.false));
+          (leapt-none (seen d _ END_IF c.is_at.ensures c.if-not-is_at.false)));
     }
 
 pub branches-returns-then-is-clause-writes : goal.branches-returns-then-is-clause-writes
@@ -83,34 +87,34 @@ branches-returns-else-is-clause-writes t c =
 pub compound-returns-in-If-clause-writes : goal.compound-returns-in-If-clause-writes
 compound-returns-in-If-clause-writes t c =
     let w = c.branches.ensures.writes in
-    let d = if_code _ (kind_or _ _ Repeat c.kind.ensures c.unwrap_or.ensures If (λ e. cc) c.in-If.is) (branches_read refl c.branches-size.ensures) c.ahead-end.ensures (branches_did w refl) in
+    let d = if_code _ (ap kind_number c.in-If.is) (branches_ahead refl c.branches_ahead-size.ensures) c.ahead-end.ensures (branches_did w refl) in
     record { core = w.core; fine = d.fine; means = d.means }
 
 pub compound-returns-in-Case-clause-writes : goal.compound-returns-in-Case-clause-writes
 compound-returns-in-Case-clause-writes t c =
     let h = c.held.ensures.writes in
     let w = c.groups.ensures.writes in
-    let d = case-code _ (kind_or _ _ Repeat c.kind.ensures c.unwrap_or.ensures Case (λ e. cc) c.in-Case.is) (held_did h refl) (groups_read h.core c.groups-size.ensures) c.ahead-end-in-Case.ensures (groups_did w h.core) in
+    let d = case-code _ (ap kind_number c.in-Case.is) (held_did h refl) (groups_ahead h.core c.groups_ahead-size.ensures) c.ahead-end-in-Case.ensures (groups_did w h.core) in
     record { core = w.core ∙ h.core; fine = d.fine; means = d.means }
 
 pub compound-returns-in-For-clause-writes : goal.compound-returns-in-For-clause-writes
 compound-returns-in-For-clause-writes t c =
     let w = c.for_loop.ensures.writes in
-    let d = for_arm _ (kind_or _ _ Repeat c.kind.ensures c.unwrap_or.ensures For (λ e. cc) c.in-For.is) (record { fine = w.fine; means = w.means }) in
+    let d = for_arm _ (ap kind_number c.in-For.is) (record { fine = w.fine; means = w.means }) in
     record { core = w.core; fine = d.fine; means = d.means }
 
 pub compound-returns-in-While-clause-writes : goal.compound-returns-in-While-clause-writes
 compound-returns-in-While-clause-writes t c =
     let w = c.while_loop.ensures.writes in
-    let d = while_arm _ (kind_or _ _ Repeat c.kind.ensures c.unwrap_or.ensures While (λ e. cc) c.in-While.is) (record { fine = w.fine; means = w.means }) in
+    let d = while_arm _ (ap kind_number c.in-While.is) (record { fine = w.fine; means = w.means }) in
     record { core = w.core; fine = d.fine; means = d.means }
 
 pub compound-returns-in_default-clause-writes : goal.compound-returns-in_default-clause-writes
 compound-returns-in_default-clause-writes t c =
     let w = c.repeat_loop.ensures.writes in
-    let other = kind_other _ _ Repeat c.kind.ensures c.unwrap_or.ensures in
     let no = c.in_default in
-    let d = repeat-arm _ (other If no.not-If) (other Case no.not-Case) (other For no.not-For) (other While no.not-While) (record { fine = w.fine; means = w.means }) in
+    let d = repeat-arm _ (λ e. no.not-If (one_kind _ If e)) (λ e. no.not-Case (one_kind _ Case e)) (λ e. no.not-For (one_kind _ For e)) (λ e. no.not-While (one_kind _ While e))
+    (record { fine = w.fine; means = w.means }) in
     record { core = w.core; fine = d.fine; means = d.means }
 
 -- FOR
@@ -120,38 +124,38 @@ for_loop-returns-clause-writes t c =
     let a = c.held.ensures.writes.core in
     let b = c.held-2.ensures.writes.core ∙ a in
     let e = c.read-by.ensures.same ∙ b in
-    let d = for_code _ (held_did c.held.ensures.writes refl) (held_did c.held-2.ensures.writes a) (rw b at c.read-by.ensures.gives) (rw b at c.read-by.ensures.moves) (list_read e c.list-size.ensures)
+    let d = for_code _ (held_did c.held.ensures.writes refl) (held_did c.held-2.ensures.writes a) (rw b at c.read-by.ensures.gives) (rw b at c.read-by.ensures.moves) (list_ahead e c.list_ahead-size.ensures)
     c.ahead-top.ensures c.add.ensures c.ahead-end.ensures c.with_slot.ensures.puts c.with_slot-2.ensures.puts c.turn.ensures.puts c.alone.ensures.puts c.saturating_add.ensures
     (list_did c.list.ensures.writes e) c.turn-2.ensures.puts in
     record { core = c.list.ensures.writes.core ∙ e; fine = d.fine; means = d.means }
 
 -- CASE's groups and ELSE
 
-pub groups-loop-further-init : goal.groups-loop-further-init
-groups-loop-further-init t c = record { same = refl; core = refl; turned = turned_none _ _ }
+pub groups-loop-tests-init : goal.groups-loop-tests-init
+groups-loop-tests-init t c = record { same = refl; core = refl; turned = turned_none _ _ }
 
-pub groups-loop-further-smaller : goal.groups-loop-further-smaller
-groups-loop-further-smaller t c =
+pub groups-loop-tests-smaller : goal.groups-loop-tests-smaller
+groups-loop-tests-smaller t c =
     let b = c.labels.ensures.writes.core in
-    rw (c.list.ensures.writes.core ∙ b) (group_less _ _ _ _ (ap (λ c. c.tag) c.cell.ensures) c.is_label.ensures c.loop-further-test.true c.labels.ensures.writes.fine (list_did c.list.ensures.writes b).fine)
+    rw (c.list.ensures.writes.core ∙ b) (group_less _ _ _ _ (ap (λ c. c.tag) c.cell.ensures) c.is_label.ensures c.loop-tests-test.true c.labels.ensures.writes.fine (list_did c.list.ensures.writes b).fine)
 
-pub groups-loop-further-preserved : goal.groups-loop-further-preserved
-groups-loop-further-preserved t c =
-    let i = c.loop-further.invariant in
+pub groups-loop-tests-preserved : goal.groups-loop-tests-preserved
+groups-loop-tests-preserved t c =
+    let i = c.loop-tests.invariant in
     let b = c.labels.ensures.writes.core ∙ i.core in
     record {
-      same = c.jump-in-loop-further.ensures.same ∙ c.list.ensures.same ∙ c.alone.ensures.same ∙ c.jump.ensures.same ∙ c.labels.ensures.same ∙ i.same;
+      same = c.jump-in-loop-tests.ensures.same ∙ c.list.ensures.same ∙ c.alone.ensures.same ∙ c.jump.ensures.same ∙ c.labels.ensures.same ∙ i.same;
       core = c.list.ensures.writes.core ∙ b;
-      turned = turned_on i.turned (group-turn (tag_of i.core _ c.cell.ensures) c.is_label.ensures c.loop-further-test.true (labels_read i.core c.labels-tests.ensures) c.add.ensures c.ahead-body.ensures
-          (labels_did c.labels.ensures.writes i.core) (list_read b c.list-size.ensures) c.add-in-loop-further.ensures c.ahead-other.ensures c.jump.ensures.puts c.alone.ensures.puts
-          (list_did c.list.ensures.writes b) c.jump-in-loop-further.ensures.puts);
+      turned = turned_on i.turned (group-turn (tag_of i.core _ c.cell.ensures) c.is_label.ensures c.loop-tests-test.true (labels_ahead i.core c.labels_ahead-tests.ensures) c.add.ensures c.ahead-body.ensures
+          (labels_did c.labels.ensures.writes i.core) (list_ahead b c.list_ahead-size.ensures) c.add-in-loop-tests.ensures c.ahead-other.ensures c.jump.ensures.puts c.alone.ensures.puts
+          (list_did c.list.ensures.writes b) c.jump-in-loop-tests.ensures.puts);
     }
 
 pub groups-returns-clause-writes : goal.groups-returns-clause-writes
 groups-returns-clause-writes t c =
-    let i = c.loop-further.invariant in
+    let i = c.loop-tests.invariant in
     let w = c.list-2.ensures.writes in
-    let d = turned_done i.turned (other_last (tag_of i.core _ c.cell.ensures) c.is_label.ensures c.loop-further-test.false c.alone-2.ensures.puts (list_did w i.core)) in
+    let d = turned_done i.turned (other_last (tag_of i.core _ c.cell.ensures) c.is_label.ensures c.loop-tests-test.false c.alone-2.ensures.puts (list_did w i.core)) in
     record { core = w.core ∙ i.core; fine = d.fine; means = d.means }
 
 -- A list of statements
@@ -195,31 +199,40 @@ repeat_loop-returns-clause-writes t c =
 
 -- A statement
 
-pub statement-returns-then-is-clause-writes : goal.statement-returns-then-is-clause-writes
-statement-returns-then-is-clause-writes t c =
+pub statement-returns-in-Assign-clause-writes : goal.statement-returns-in-Assign-clause-writes
+statement-returns-in-Assign-clause-writes t c =
     let a = c.read-head.ensures in
     let w = c.held.ensures.writes in
-    let d = assign-code a.gives a.moves c.alone.ensures.puts (eqb-true _ ASSIGN (sym c.is.ensures ∙ c.if-is.true)) (held_did w a.same) c.with_slot.ensures.puts in
+    let d = assign-code a.gives a.moves c.alone.ensures.puts (of_kind c.kind.ensures c.in-Ok.is Assign c.in-Assign.is) (held_did w a.same) c.with_slot.ensures.puts in
     record { core = w.core ∙ a.same; fine = d.fine; means = d.means }
 
-pub statement-returns-then-is-2-clause-writes : goal.statement-returns-then-is-2-clause-writes
-statement-returns-then-is-2-clause-writes t c =
+pub statement-returns-in-Exit-clause-writes : goal.statement-returns-in-Exit-clause-writes
+statement-returns-in-Exit-clause-writes t c =
     let a = c.read-head.ensures in
-    let d = exit-code a.gives a.moves c.alone.ensures.puts (eqb-true _ EXIT (sym c.is-else-is.ensures ∙ c.if-is-2.true)) c.jump.ensures.puts in
+    let d = exit-code a.gives a.moves c.alone.ensures.puts (of_kind c.kind.ensures c.in-Ok.is Exit c.in-Exit.is) c.jump.ensures.puts in
     record { core = a.same; fine = d.fine; means = d.means }
 
 pub statement-returns-then-around-gt0-clause-writes : goal.statement-returns-then-around-gt0-clause-writes
 statement-returns-then-around-gt0-clause-writes t c =
     let a = c.read-head.ensures in
     let w = c.compound.ensures.writes in
-    let d = compound-code a.gives a.moves c.alone.ensures.puts (eqb-false _ ASSIGN (sym c.is.ensures ∙ c.if-is.false)) (eqb-false _ EXIT (sym c.is-else-is.ensures ∙ c.if-is-2.false))
-    (λ e. omega arith) refl (compound_did _ w a.same) in
+    let other = not_kind c.kind.ensures c.in-Ok.is in
+    let no = c.in_default-kind in
+    let d = compound-code a.gives a.moves c.alone.ensures.puts (other Assign no.not-Assign) (other Exit no.not-Exit) (λ e. omega arith) refl c.in-Ok.ensures (compound_did _ w a.same) in
     record { core = w.core ∙ a.same; fine = d.fine; means = d.means }
 
 pub statement-returns-else-around-gt0-clause-writes : goal.statement-returns-else-around-gt0-clause-writes
 statement-returns-else-around-gt0-clause-writes t c =
     let a = c.read-head.ensures in
-    let d = deep-code a.gives a.moves c.alone.ensures.puts (eqb-false _ ASSIGN (sym c.is.ensures ∙ c.if-is.false)) (eqb-false _ EXIT (sym c.is-else-is.ensures ∙ c.if-is-2.false)) (omega arith) in
+    let other = not_kind c.kind.ensures c.in-Ok.is in
+    let no = c.in_default-kind in
+    let d = deep-code a.gives a.moves c.alone.ensures.puts (other Assign no.not-Assign) (other Exit no.not-Exit) (omega arith) in
+    record { core = a.same; fine = d.fine; means = d.means }
+
+pub statement-returns-in_default-clause-writes : goal.statement-returns-in_default-clause-writes
+statement-returns-in_default-clause-writes t c =
+    let a = c.read-head.ensures in
+    let d = unknown-code a.gives a.moves c.alone.ensures.puts (no_kind c.kind.ensures c.in_default.is) in
     record { core = a.same; fine = d.fine; means = d.means }
 
 -- WHILE
@@ -228,5 +241,5 @@ pub while_loop-returns-clause-writes : goal.while_loop-returns-clause-writes
 while_loop-returns-clause-writes t c =
     let h = c.held.ensures.writes in
     let l = c.list.ensures.writes in
-    let d = while_code _ (held_did h refl) (list_read h.core c.list-size.ensures) c.add.ensures c.ahead-exit.ensures c.jump.ensures.puts (list_did l h.core) c.jump-2.ensures.puts in
+    let d = while_code _ (held_did h refl) (list_ahead h.core c.list_ahead-size.ensures) c.add.ensures c.ahead-exit.ensures c.jump.ensures.puts (list_did l h.core) c.jump-2.ensures.puts in
     record { core = l.core ∙ h.core; fine = d.fine; means = d.means }

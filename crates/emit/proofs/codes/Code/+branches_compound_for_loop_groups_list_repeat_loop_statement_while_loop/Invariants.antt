@@ -45,15 +45,15 @@ invariant-branches-loop-self l = record {
 abbrev pub decreases-branches-loop-self : goal.decreases-branches-loop-self
 decreases-branches-loop-self l = length l.from.memory.now - l.from.at
 
-abbrev pub invariant-groups-loop-further : goal.invariant-groups-loop-further
-invariant-groups-loop-further l = record {
+abbrev pub invariant-groups-loop-tests : goal.invariant-groups-loop-tests
+invariant-groups-loop-tests l = record {
   same : l.self.bytes.ghost_name ≡ l.fn.self.bytes.ghost_name;
   core : l.from.memory.now ≡ l.fn.from.memory.now;
   turned : Turned (GroupsCode l.end l.around l.fn.from.memory.now) l.fn.from.memory.now l.fn.self.bytes.now l.self.bytes.now (place_of l.fn.from l.fn.self) (place_of l.from l.self);
 }
 
-abbrev pub decreases-groups-loop-further : goal.decreases-groups-loop-further
-decreases-groups-loop-further l = length l.from.memory.now - l.from.at
+abbrev pub decreases-groups-loop-tests : goal.decreases-groups-loop-tests
+decreases-groups-loop-tests l = length l.from.memory.now - l.from.at
 
 abbrev pub invariant-list-loop-around : goal.invariant-list-loop-around
 invariant-list-loop-around l = record {

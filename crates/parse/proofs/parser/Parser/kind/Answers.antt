@@ -6,7 +6,7 @@ use Rattle.parse.proofs.parser.Parser.kind.Goals as goal
 
 pub returns-in_default : goal.returns-in_default
 unfolding kind_at
-returns-in_default c = (omega (arith, c.in_default.ensures.1, ap (λ t. t.kind) c.token.ensures), c.refusal.ensures)
+returns-in_default c = (omega (arith, c.in_default.ensures.1, ap (λ t. t.tag) c.token.ensures), c.refusal.ensures)
 
 pub returns : goal.returns
 returns c = meets c.args.self.now _ c.token.ensures c.in-Ok.ensures

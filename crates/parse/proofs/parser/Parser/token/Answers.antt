@@ -4,6 +4,7 @@ use native.Mathlib.Omega.{arith}
 use lib.ListN.{length, take, length-take, get_or-eq_default}
 use lib.Seq.{get_or-take}
 use Rattle.parse.specs.Steps.{token_at}
+use Rattle.parse.proofs.Cells.{zeros}
 use Rattle.parse.proofs.parser.Parser.token.Goals as goal
 
 pub returns-then-self : goal.returns-then-self
@@ -22,4 +23,5 @@ returns c =
     let short : length t ≤ 3 * p.next = rw length-take (omega arith) in
     let place = get_or-eq_default t 0 {n = 3 * p.next + 1} (omega arith) in
     let datum = get_or-eq_default t 0 {n = 3 * p.next + 2} (omega arith) in
-    rw (get_or-eq_default t 0 {n = 3 * p.next} short, place, datum)
+    let d = c.default.ensures in
+    rw (get_or-eq_default t 0 {n = 3 * p.next} short, place, datum) (zeros _ d.0 d.1.0 d.1.1)
