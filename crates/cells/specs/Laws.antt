@@ -5,6 +5,14 @@ use Rattle.std.proofs.lemmas.Bool.{lt-leb}
 use Rattle.rules.specs.Base.{pick}
 use Rattle.rules.specs.Cells.{cell}
 use Rattle.cells.specs.Reading.{cell_in, behind, Lies}
+use Rattle.cells.specs.declared.cell.Cell.{Cell}
+
+-- a cell whose numbers are 0 is the cell of zeros
+pub zero_cell : (c : Cell) → c.tag ≡ 0 → c.place ≡ 0 → c.datum ≡ 0 → c ≡ record { tag = 0; place = 0; datum = 0 }
+zero_cell c = go c.tag c.place c.datum
+  where
+    go : (t p d : ℕ) → t ≡ 0 → p ≡ 0 → d ≡ 0 → ◌≡◌ {A = Cell} (record { tag = t; place = p; datum = d }) (record { tag = 0; place = 0; datum = 0 })
+    go t p d a b c = rw (a, b, c)
 
 -- what the code finds ahead of a place
 

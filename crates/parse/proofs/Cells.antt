@@ -9,7 +9,6 @@ use lib.Seq.{sets, get_or-drop, drop-drop}
 use Rattle.rules.specs.Tokens.{Token, plain}
 use Rattle.rules.specs.Syntax.{next, rest}
 use Rattle.rules.specs.Cells.{cells, token_cell, cell, datum}
-use Rattle.cells.specs.declared.cell.Cell.{Cell}
 use Rattle.parse.specs.Steps.{token_at, At}
 use Rattle.parse.specs.Reading.{Ahead}
 
@@ -28,13 +27,6 @@ take-set (y ∷ l) (suc i) (suc k) x h = ap (λ w. y ∷ w) (take-set l i k x (o
 pub take-sets : (l : List ℕ) (i : ℕ) (xs : List ℕ) (k : ℕ) → k ≤ i → take k (sets l i xs) ≡ take k l
 take-sets l i [] k h = refl
 take-sets l i (x ∷ xs) k h = take-sets (set l i x) (suc i) xs k (omega arith) ∙ take-set l i k x h
-
--- a cell's default is zeros
-pub zeros : (c : Cell) → c.tag ≡ 0 → c.place ≡ 0 → c.datum ≡ 0 → c ≡ record { tag = 0; place = 0; datum = 0 }
-zeros c = go c.tag c.place c.datum
-  where
-    go : (x y z : ℕ) → x ≡ 0 → y ≡ 0 → z ≡ 0 → ◌≡◌ {A = Cell} (record { tag = x; place = y; datum = z }) (record { tag = 0; place = 0; datum = 0 })
-    go x y z t p d = rw (t, p, d)
 
 -- the next token's numbers are the first three ahead
 first : (us : List Token) → (get_or (cells us) 0 0 ≡ (next us).kind) × (get_or (cells us) 1 0 ≡ (next us).place) × (get_or (cells us) 2 0 ≡ datum (next us))

@@ -8,7 +8,6 @@ use lib.Dec.{leb}
 use lib.ListN.{length, length-take, get_or}
 use lib.Seq.{get_or-take}
 use borrow.Author.Tests.{leb-true, leb-false, le-leb, lt-leb}
-use Rattle.cells.specs.declared.cell.Cell.{Cell}
 use Rattle.walk.specs.Steps.{stack_start, kept}
 
 -- the numbers before the stack: all, or those up to it
@@ -33,10 +32,3 @@ module _ (m : List ℕ) (i : ℕ) where
   -- a cell that has room lies within the numbers and before the stack
   pub cell_room : leb (i + 3) (length (kept m)) ≡ true → (i + 3 ≤ length m) × (i + 3 ≤ stack_start)
   cell_room e = let l = leb-true (i + 3) (length (kept m)) e in let k = kept_length m in omega arith
-
--- a cell of zeros
-pub no_cell : (c : Cell) → c.tag ≡ 0 → c.place ≡ 0 → c.datum ≡ 0 → c ≡ record { tag = 0; place = 0; datum = 0 }
-no_cell c = go c.tag c.place c.datum
-  where
-    go : (x y z : ℕ) → x ≡ 0 → y ≡ 0 → z ≡ 0 → ◌≡◌ {A = Cell} (record { tag = x; place = y; datum = z }) (record { tag = 0; place = 0; datum = 0 })
-    go x y z t p d = rw (t, p, d)

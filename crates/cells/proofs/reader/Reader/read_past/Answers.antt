@@ -1,7 +1,7 @@
-use Rattle.std.proofs.Common.{◌≡◌, ℕ, refl, sym, ap, ◌∙◌}
+use Rattle.std.proofs.Common.{refl, sym, ap, ◌∙◌}
 use Rattle.std.proofs.lemmas.Bool.{eqb-true, eqb-false}
+use Rattle.cells.specs.Laws.{zero_cell}
 use Rattle.cells.specs.Runs.{found, passed, ended}
-use Rattle.cells.specs.declared.cell.Cell.{Cell}
 use Rattle.cells.proofs.reader.Reader.read_past.Goals as goal
 
 pub loop-cell-init : goal.loop-cell-init
@@ -25,12 +25,9 @@ returns-then-is c =
       same = c.in-Some.ensures.same ∙ same;
     }
 
-zeros : {t p d : ℕ} → t ≡ 0 → p ≡ 0 → d ≡ 0 → ◌≡◌ {A = Cell} (record { tag = t; place = p; datum = d }) (record { tag = 0; place = 0; datum = 0 })
-zeros a b c = rw (a, b, c)
-
 pub returns : goal.returns
 returns c =
     let same = c.loop-cell.invariant.same in
     let behind = rw same at c.in_default.ensures.next in
-    let z : c.default.result ≡ record { tag = 0; place = 0; datum = 0 } = zeros c.default.ensures.0 c.default.ensures.1.0 c.default.ensures.1.1 in
+    let z = zero_cell c.default.result c.default.ensures.0 c.default.ensures.1.0 c.default.ensures.1.1 in
     record { reads = rw (z, behind.1) (c.loop-cell.invariant.reads _ _ (ended behind.0)); same = c.in_default.ensures.same ∙ same }

@@ -4,7 +4,7 @@ use native.Mathlib.Omega.{arith}
 use lib.ListN.{length, take, length-take, get_or-eq_default}
 use lib.Seq.{get_or-take}
 use Rattle.parse.specs.Steps.{token_at}
-use Rattle.parse.proofs.Cells.{zeros}
+use Rattle.cells.specs.Laws.{zero_cell}
 use Rattle.parse.proofs.parser.Parser.token.Goals as goal
 
 pub returns-then-self : goal.returns-then-self
@@ -24,4 +24,4 @@ returns c =
     let place = get_or-eq_default t 0 {n = 3 * p.next + 1} (omega arith) in
     let datum = get_or-eq_default t 0 {n = 3 * p.next + 2} (omega arith) in
     let d = c.default.ensures in
-    rw (get_or-eq_default t 0 {n = 3 * p.next} short, place, datum) (zeros _ d.0 d.1.0 d.1.1)
+    rw (get_or-eq_default t 0 {n = 3 * p.next} short, place, datum) (zero_cell _ d.0 d.1.0 d.1.1)

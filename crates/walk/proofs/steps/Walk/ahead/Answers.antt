@@ -1,7 +1,8 @@
 -- `walk::steps::Walk::ahead` meets its contract: where a cell has room before the stack, its numbers are those of memory.
 use Rattle.std.proofs.Common.{◌+◌, sym, ◌∙◌, arith}
 use Rattle.walk.specs.Steps.{cell_at}
-use Rattle.walk.proofs.CellRooms.{kept_at, no_cell}
+use Rattle.cells.specs.Laws.{zero_cell}
+use Rattle.walk.proofs.CellRooms.{kept_at}
 use Rattle.walk.proofs.steps.Walk.ahead.Goals as goal
 
 pub returns-then-has_cell : goal.returns-then-has_cell
@@ -14,4 +15,4 @@ returns-then-has_cell c =
 
 pub returns : goal.returns
 unfolding cell_at
-returns c = let d = c.default.ensures in rw (sym c.has_cell.ensures.fits ∙ c.if-has_cell.false) (no_cell _ d.0 d.1.0 d.1.1)
+returns c = let d = c.default.ensures in rw (sym c.has_cell.ensures.fits ∙ c.if-has_cell.false) (zero_cell _ d.0 d.1.0 d.1.1)
