@@ -7,9 +7,9 @@ use lib.Dec.{leb}
 use lib.IntN.{ℤ, pos, negsuc}
 use lib.Signed.{mag, le_z, quot_z, rem_z, mag_rem}
 use borrow.Author.Tests.{leb-true, leb-false, le-leb, lt-leb, ne_eqb}
-use mir.Syntax.{w32}
+use mir.Syntax.{w32, w64}
 use mir.Val.{SFits, to_z, of_z}
-use mir.Facts.{to_z-of_z}
+use mir.Facts.{sfits_widen, to_z-of_z}
 use Rattle.std.specs.Prelude.{Option, None, Some, Result, SomeIff}
 use Rattle.std.specs.Int.{CanDivide}
 use Rattle.std.specs.Option.{ok_or}
@@ -72,8 +72,13 @@ unfolding binop
 divided (Some x) a b n h e = rw (not_zero b n, binop) (answered (Some x) (quot_z a b) (h.0.1, h.1) e)
 divided None a b n h e = rw (not_zero b n, binop) (answered None (quot_z a b) (λ f. h (omega arith, f)) e)
 
-pub left_over : {x : ℤ} (a b : ℤ) → (of_z w32 b ≡ 0 → ⊥) → SFits w32 a → x ≡ rem_z a b → val (to_z w32 (of_z w32 x)) ≡ binop Mod a b
+-- `wide` keeps a number, as the machine reads it back
+wide_back : {x a : ℤ} → SFits w32 a → x ≡ to_z w32 (of_z w32 a) → to_z w64 (of_z w64 x) ≡ a
+wide_back f e = rw (e, to_z-of_z f) (to_z-of_z {w = w64} (sfits_widen tt f))
+
+pub left_over : {x y : ℤ} (a b : ℤ) → (of_z w32 b ≡ 0 → ⊥) → SFits w32 a → SFits w32 b → x ≡ to_z w32 (of_z w32 a) → y ≡ to_z w32 (of_z w32 b)
+    → val (to_z w32 (of_z w32 (to_z w64 (of_z w64 (rem_z (to_z w64 (of_z w64 x)) (to_z w64 (of_z w64 y))))))) ≡ binop Mod a b
 unfolding binop
-left_over a b n f e =
+left_over a b n f g e h =
     let m : SFits w32 (rem_z a b) = record { sfits = let l = f.sfits in omega (arith, mag_rem a b) } in
-    rw (not_zero b n, binop, e, to_z-of_z m) (held (rem_z a b) (let l = m.sfits in omega arith))
+    rw (wide_back f e, wide_back g h, to_z-of_z {w = w64} (sfits_widen tt m), to_z-of_z m, not_zero b n, binop) (held (rem_z a b) (let l = m.sfits in omega arith))

@@ -60,7 +60,7 @@ pub fn rem(a: i32, b: i32) -> Result<i32, Trap>
     if b == 0 {
         return Err(Trap::Divide);
     }
-    Ok(a.wrapping_rem(b))
+    Ok((wide(a) % wide(b)) as i32)
 }
 
 // The same number, in 64 bits: still a number of 32.

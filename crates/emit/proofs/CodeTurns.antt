@@ -68,29 +68,29 @@ list_last {m} {code} {q} {around} {next} sees t e = record { fine = past_cell m 
 
 -- Branches: a condition, JZ past its list, the list, JUMP if another branch or ELSE follows; then the others
 
--- JUMP behind a list, unless IF ends there
-pub record Leapt (m code code' : L.List ℕ) (end : ℕ) (p q : Place) : Type 0 where
+-- JUMP behind a list, where this is its size
+pub record Leapt (m code code' : L.List ℕ) (end leap : ℕ) (p q : Place) : Type 0 where
   pub stays : q.at ≡ p.at
-  pub leapt : (b : Brs) (z : ℕ) → (cell_in m p.at).tag ≡ head_b b → end ≡ z → z ≤ 8192 → Wrote m [] (enc_all (jmp b z [])) code code' p q
+  pub leapt : (b : Brs) (z : ℕ) → leap ≡ jlen b → end ≡ z → z ≤ 8192 → Wrote m [] (enc_all (jmp b z [])) code code' p q
 
-pub leapt-jump : {m code code' : L.List ℕ} {end r : ℕ} {p : Place} → ((cell_in m p.at).tag ≡ END_IF → ⊥) → Writes code code' p.code (21 ∷ (end % 256) ∷ (end / 256 % 256) ∷ []) r
-    → Leapt m code code' end p (record { at = p.at; code = r })
-unfolding jmp head_b
-leapt-jump {m} {code} {code'} {end} {r} {p} more w = record { stays = refl; leapt = go }
+pub leapt-jump : {m code code' : L.List ℕ} {end leap r : ℕ} {p : Place} → leap ≡ 3 → Writes code code' p.code (21 ∷ (end % 256) ∷ (end / 256 % 256) ∷ []) r
+    → Leapt m code code' end leap p (record { at = p.at; code = r })
+unfolding jmp jlen
+leapt-jump {m} {code} {code'} {end} {leap} {r} {p} t w = record { stays = refl; leapt = go }
   where
-    go : (b : Brs) (z : ℕ) → (cell_in m p.at).tag ≡ head_b b → end ≡ z → z ≤ 8192 → Wrote m [] (enc_all (jmp b z [])) code code' p (record { at = p.at; code = r })
-    go none z t e h = absurd (more t)
-    go (els x) z t e h = wrote_put m (jump_to z e h w)
-    go (elsif c x b) z t e h = wrote_put m (jump_to z e h w)
+    go : (b : Brs) (z : ℕ) → leap ≡ jlen b → end ≡ z → z ≤ 8192 → Wrote m [] (enc_all (jmp b z [])) code code' p (record { at = p.at; code = r })
+    go none z l e h = absurd (omega arith)
+    go (els x) z l e h = wrote_put m (jump_to z e h w)
+    go (elsif c x b) z l e h = wrote_put m (jump_to z e h w)
 
-pub leapt-none : {m code : L.List ℕ} {end : ℕ} {p : Place} → (cell_in m p.at).tag ≡ END_IF → Leapt m code code end p p
-unfolding enc_all jmp head_b
-leapt-none {m} {code} {end} {p} last = record { stays = refl; leapt = go }
+pub leapt-none : {m code : L.List ℕ} {end leap : ℕ} {p : Place} → (leap ≡ 3 → ⊥) → Leapt m code code end leap p p
+unfolding enc_all jmp jlen
+leapt-none {m} {code} {end} {leap} {p} t = record { stays = refl; leapt = go }
   where
-    go : (b : Brs) (z : ℕ) → (cell_in m p.at).tag ≡ head_b b → end ≡ z → z ≤ 8192 → Wrote m [] (enc_all (jmp b z [])) code code p p
-    go none z t e h = wrote_nothing m code p
-    go (els x) z t e h = absurd (omega arith)
-    go (elsif c x b) z t e h = absurd (omega arith)
+    go : (b : Brs) (z : ℕ) → leap ≡ jlen b → end ≡ z → z ≤ 8192 → Wrote m [] (enc_all (jmp b z [])) code code p p
+    go none z l e h = wrote_nothing m code p
+    go (els x) z l e h = absurd (t l)
+    go (elsif c x b) z l e h = absurd (t l)
 
 pub branch_less : (m : L.List ℕ) (i j k : ℕ) {tag next : ℕ} → tag ≡ (cell_in m i).tag → tag ≡ THEN → next ≡ behind m i → Moves m next j → Moves m j k → length m - k < length m - i
 branch_less m i j k sees t is held list = fewer m i k sees (λ z. omega arith) (onward m _ _ _ (past_cell m i is) (onward m _ _ _ held list))
@@ -100,7 +100,7 @@ pub branch-turn : {m code code₁ code₂ code₃ code₄ : L.List ℕ} {q condi
     → ListDoes m condition.at around.levels size → leap ≡ jump_size (cell_in m size.at).tag
     → one ≡ capped (3 + size.size) → two ≡ capped (one + leap) → far ≡ ahead condition.code two
     → Writes code₁ code₂ condition.code (22 ∷ (far % 256) ∷ (far / 256 % 256) ∷ []) tested
-    → ListDone around m code₂ code₃ (record { at = condition.at; code = tested }) body → Leapt m code₃ code₄ end body q'
+    → ListDone around m code₂ code₃ (record { at = condition.at; code = tested }) body → Leapt m code₃ code₄ end leap body q'
     → Turned (BranchesCode end around m) m code code₄ q q'
 unfolding brs_cells code_b size_b levels_b head_b jmp jlen
 branch-turn {m} {code} {code₄ = code₄} {q} {body} {q'} {around} {end} sees t is held few tag one two far leap list leapt = record { reached = rw leapt.stays (le_of_lt (branch_less m _ _ _ sees t is held.fine list.fine)); leads = on }
@@ -122,7 +122,7 @@ branch-turn {m} {code} {code₄ = code₄} {q} {body} {q'} {around} {end} sees t
         let past = q.code + size_e c + 3 + size_l l + jlen b in
         instr_on (JZ past) _ (jz_to past (omega arith) (omega arith) leap) (λ e₂.
         list_on l (q.code + size_e c + 3) around.exit around.fors _ f.1 (omega arith) list.means (omega arith) refl refl (λ e₃ lies₃.
-        rw (bytes-j b (past + size_b b) (code_b b past around.exit around.fors [])) (wrote_on (leapt.leapt b (past + size_b b) (tag-branches b lies₃) (omega arith) (omega arith)) (λ e₄ lies₄.
+        rw (bytes-j b (past + size_b b) (code_b b past around.exit around.fors [])) (wrote_on (leapt.leapt b (past + size_b b) j (omega arith) (omega arith)) (λ e₄ lies₄.
         let k = length-j b (past + size_b b) in
         let from : past ≡ q'.code = omega arith in
         rw from (w b f.2 (omega arith) (omega arith))))))))))

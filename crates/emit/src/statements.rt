@@ -32,7 +32,7 @@ impl Code<'_> {
             let other = self.ahead(Size(3) + size + leap);
             self.jump(Op::JumpZero, other);
             self.list(from, around);
-            if !from.is_at(Kind::EndIf) {
+            if leap.0 == 3 {
                 self.jump(Op::Jump, end);
             }
         }

@@ -8,7 +8,7 @@ mod limits;
 mod running;
 
 pub use compiling::{Compiled, Fault, Refusal, Stated};
-pub use filling::FillError;
+pub use filling::{FillError, fill_number};
 pub use kinds::{Kind, Type, UnknownKind};
 pub use limits::Limits;
 pub use running::{Evaluated, Outcome, Report};

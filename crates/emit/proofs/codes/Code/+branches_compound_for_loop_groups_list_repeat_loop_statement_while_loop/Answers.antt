@@ -1,12 +1,12 @@
 use mathlib.Core.Path.{refl, sym, ap, ◌∙◌}
 use native.Mathlib.Omega.{arith}
 use Rattle.std.proofs.lemmas.Bool.{eqb-true, eqb-false}
-use Rattle.rules.specs.Kinds.{FINISH, ELSE, END_IF, THEN}
+use Rattle.rules.specs.Kinds.{FINISH, ELSE, THEN}
 use Rattle.rules.specs.KindNumbers.{kind_number}
 use Rattle.rules.proofs.KindLaws.{one_kind}
 use Rattle.rules.specs.declared.kinds.Kind.TheVariants.{If, Case, For, While, Assign, Exit}
 use Rattle.emit.proofs.KindTests.{of_kind, not_kind, no_kind}
-use Rattle.emit.proofs.Readers.{tag_of, seen, unseen, stayed, taken, held_read, list_read, labels_ahead, list_ahead, branches_ahead, groups_ahead}
+use Rattle.emit.proofs.Readers.{tag_of, stayed, taken, held_read, list_read, labels_ahead, list_ahead, branches_ahead, groups_ahead}
 use Rattle.emit.proofs.SizeSums.{fewer}
 use Rattle.emit.proofs.PartsDone.{held_did, labels_did, statement_did, list_did, branches_did, groups_did, compound_did}
 use Rattle.emit.proofs.LoopCodes.{for_code, while_code, repeat-code}
@@ -19,26 +19,26 @@ use Rattle.emit.proofs.codes.Code.+branches_compound_for_loop_groups_list_repeat
 pub branches-loop-self-init : goal.branches-loop-self-init
 branches-loop-self-init t c = record { same = refl; core = refl; turned = turned_none _ _ }
 
-pub branches-loop-self-smaller-then-not-is_at : goal.branches-loop-self-smaller-then-not-is_at
-branches-loop-self-smaller-then-not-is_at t c =
+pub branches-loop-self-smaller-then-leap-eq3 : goal.branches-loop-self-smaller-then-leap-eq3
+branches-loop-self-smaller-then-leap-eq3 t c =
     let then = c.in-Some.ensures.takes in
     let a = c.next_if.ensures.same in
     let b = c.held.ensures.writes.core ∙ a in
     rw (c.list.ensures.writes.core ∙ b) (branch_less _ _ _ _ refl (eqb-true _ THEN then.0) then.2 (held_did c.held.ensures.writes a).fine (list_did c.list.ensures.writes b).fine)
 
-pub branches-loop-self-preserved-then-not-is_at : goal.branches-loop-self-preserved-then-not-is_at
-branches-loop-self-preserved-then-not-is_at t c =
+pub branches-loop-self-preserved-then-leap-eq3 : goal.branches-loop-self-preserved-then-leap-eq3
+branches-loop-self-preserved-then-leap-eq3 t c =
     let i = c.loop-self.invariant in
     let then = rw i.core at c.in-Some.ensures.takes in
     let a = c.next_if.ensures.same ∙ i.core in
     let b = c.held.ensures.writes.core ∙ a in
     let d = c.list.ensures.writes.core ∙ b in
     record {
-      same = c.jump-then-not-is_at.ensures.same ∙ c.list.ensures.same ∙ c.jump.ensures.same ∙ c.held.ensures.same ∙ i.same;
+      same = c.jump-then-leap-eq3.ensures.same ∙ c.list.ensures.same ∙ c.jump.ensures.same ∙ c.held.ensures.same ∙ i.same;
       core = d;
       turned = turned_on i.turned (branch-turn refl (eqb-true _ THEN then.0) then.2 (held_did c.held.ensures.writes a) (list_read b c.list-size.ensures)
           (rw (c.list-size.ensures.same ∙ b) at c.jump_size-leap.ensures) c.add.ensures c.add-in-Some.ensures c.ahead-other.ensures c.jump.ensures.puts (list_did c.list.ensures.writes b)
-          (leapt-jump (unseen d _ END_IF c.is_at.ensures c.if-not-is_at.true) c.jump-then-not-is_at.ensures.puts));
+          (leapt-jump c.if-leap-eq3.true c.jump-then-leap-eq3.ensures.puts));
     }
 
 pub branches-loop-self-smaller : goal.branches-loop-self-smaller
@@ -60,7 +60,7 @@ branches-loop-self-preserved t c =
       core = d;
       turned = turned_on i.turned (branch-turn refl (eqb-true _ THEN then.0) then.2 (held_did c.held.ensures.writes a) (list_read b c.list-size.ensures)
           (rw (c.list-size.ensures.same ∙ b) at c.jump_size-leap.ensures) c.add.ensures c.add-in-Some.ensures c.ahead-other.ensures c.jump.ensures.puts (list_did c.list.ensures.writes b)
-          (leapt-none (seen d _ END_IF c.is_at.ensures c.if-not-is_at.false)));
+          (leapt-none c.if-leap-eq3.false));
     }
 
 pub branches-returns-then-is-clause-writes : goal.branches-returns-then-is-clause-writes
