@@ -1,6 +1,7 @@
 pub mod Runs
 pub mod Shown
 pub mod Digits
+pub mod Bases
 pub mod Nested
 pub mod Starts
 pub mod Stores

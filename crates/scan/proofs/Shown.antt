@@ -1,10 +1,13 @@
 -- What the pieces of the rules show.
-use Rattle.std.proofs.Common.{◌≡◌, refl, Bool, true, false, List, [], ◌∷◌, ℕ, ◌<◌, ◌≤◌, length, Some, None, arith, eqb, leb, not}
+use Rattle.std.proofs.Common.{◌≡◌, refl, Bool, true, false, List, [], ◌∷◌, ℕ, ◌<◌, ◌≤◌, length, Some, None, arith, eqb, leb, not, take, min, length-take}
 use Rattle.std.proofs.Math.Option.{Option, none, some}
 use Rattle.std.proofs.lemmas.Grind.{common_steps}
-use Rattle.std.proofs.lemmas.Bool.{leb-true}
+use native.Mathlib.Decide.{dec_le}
+use Rattle.std.proofs.lemmas.Bool.{leb-true, lt-leb}
+use Rattle.std.proofs.lemmas.List.{take_all}
 use Rattle.theorems.specs.Tests.{and_l}
 use Rattle.rules.specs.Base.{pick}
+use Rattle.scan.proofs.Runs.{run_take, run_short}
 use Rattle.rules.specs.Limits.{integer_limit}
 use Rattle.rules.specs.Kinds.{FINISH, NAME, INT}
 use Rattle.rules.specs.Tokens.{Piece, plain, fold, reserved, lookup, parts_well, is_name, word_kind, word, name_piece, integer_piece, symbol_piece, piece, is_blank, is_digit, starts, starts_name, in_name, in_integer, run, integer, symbol1, symbol2}
@@ -46,6 +49,22 @@ module _ (w : List ℕ) (i : ℕ) where
   pub no_name : is_name w ≡ false → shown (name_piece w i) ≡ a_fault 3
   unfolding shown name_piece
   no_name h = rw h
+
+-- a run of over 32 bytes is no name, and nor are its first 33
+pub looked_ahead : (t : List ℕ) → name_piece (run in_name (take (min (length t) 33) t)) 0 ≡ name_piece (run in_name t) 0
+unfolding name_piece is_name
+looked_ahead t =
+    let w = run in_name t in
+    let e : run in_name (take (min (length t) 33) t) ≡ take (min (length t) 33) w = run_take in_name _ t in
+    let s = run_short in_name t in
+    elim (dec_le (length w) 32) [
+      | yes h ↦
+          let n : length w ≤ min (length t) 33 = omega arith in
+          rw (e, take_all (min (length t) 33) w n)
+      | no h ↦
+          let n : 32 < length (take (min (length t) 33) w) = omega (arith, length-take (min (length t) 33) w) in
+          rw (e, lt-leb _ _ n) (rw (lt-leb (length w) 32 (omega arith)))
+    ]
 
 module _ (n i : ℕ) where
   pub an_integer : (o : Option ℕ) {v : ℕ} → limited o ≡ Some v → shown (integer_piece o n i) ≡ a_token INT v n

@@ -1,11 +1,11 @@
 -- What the answers of scanning's functions stand for.
-use Rattle.std.specs.Prelude.{◌≡◌, List, find, ℕ, ◌<◌, leb, Option as Maybe, Some, None, Result, Ok, Err}
+use Rattle.std.specs.Prelude.{◌≡◌, List, ◌&&◌, drop, find, ℕ, ◌<◌, leb, Option as Maybe, Some, None, Result, Ok, Err}
 use denote.Ref.{Bor}
 use Rattle.std.proofs.Math.Option.{Option, none, some}
 use Rattle.rules.specs.Limits.{integer_limit}
 use Rattle.std.specs.Option.{option_map}
 use Rattle.rules.specs.Base.{pick, same}
-use Rattle.rules.specs.Tokens.{Piece, gap, tok, bad, fold}
+use Rattle.rules.specs.Tokens.{Piece, gap, tok, bad, fold, starts}
 use Rattle.rules.specs.Cells.{datum}
 use Rattle.rules.specs.Answers.{fault_number}
 use Rattle.rules.specs.KindNumbers.{kind_number}
@@ -48,3 +48,11 @@ kind_in table word = option_map (λ row. row.1) (find (λ row. same (fold word) 
 unfoldable pub limited : Option ℕ → Maybe ℕ
 limited none = None
 limited (some v) = pick (leb v integer_limit) (λ _. Some v) (λ _. None)
+
+-- the base that an integer's first bytes name, and how many bytes name it
+unfoldable pub base_of : List ℕ → ℕ × ℕ
+base_of s =
+    pick (starts 50 35 s) (λ _. (2, 2)) (λ _.
+    pick (starts 56 35 s) (λ _. (8, 2)) (λ _.
+    pick (starts 49 54 s && starts 54 35 (drop 1 s)) (λ _. (16, 3)) (λ _.
+    (10, 0))))

@@ -19,7 +19,8 @@ impl Cell {
         requires small { self.place < 2 ^ 32 }
         ensures { memory.new ≡ sets memory.old at (cell (kind_number self.kind) self.place self.datum) }
     {
-        let numbers = [self.kind.number(), self.place as u32, self.datum];
-        memory[at..at + 3].copy_from_slice(&numbers);
+        memory[at] = self.kind.number();
+        memory[at + 1] = self.place as u32;
+        memory[at + 2] = self.datum;
     }
 }

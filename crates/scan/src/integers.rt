@@ -1,7 +1,7 @@
 // Integers: decimal, or `2#`, `8#`, `16#`.
-ghost use Rattle.std.specs.Prelude.{◌≡◌, false, ◌≤◌, length};
+ghost use Rattle.std.specs.Prelude.{◌≡◌, false, ◌≤◌, length, None, Some, MatchOption};
 ghost use Rattle.rules.specs.Tokens.{in_integer, run, digits as digits_from, integer, integer_piece};
-ghost use Rattle.scan.specs.Pieces.{answered, shown, limited};
+ghost use Rattle.scan.specs.Pieces.{answered, shown, limited, base_of};
 
 use super::bytes;
 use super::pieces::Piece;
@@ -10,54 +10,61 @@ use rules::{Fault, Kind};
 // The largest integer that a token has.
 const LARGEST: u32 = 2147483648;
 
-// The value of the digits, if they are digits and it is not too large. A single underscore may stand between two.
-fn value_of(digits: &[u8], base: u32) -> Option<u32>
+// The value of the digits at the start of the text, if it is not too large, and how many bytes they are. A single underscore may stand between two.
+// One loop does both, and ends at the first fault, so that a long token is read once, and a bad one no further.
+fn value_of(text: &[u8], base: u32) -> Option<(u32, usize)>
     requires { (2 ≤ base) × (base ≤ 16) }
-    ensures { result ≡ limited (digits_from base 0 false digits.now) }
+    ensures { MatchOption result (limited (digits_from base 0 false (run in_integer text.now)) ≡ None)
+        (λ r. (limited (digits_from base 0 false (run in_integer text.now)) ≡ Some r.0) × (length (run in_integer text.now) ≡ r.1)) }
 {
     let mut value: u32 = 0;
     let mut after_digit = false;
-    for &x in digits {
+    let mut length = 0;
+    for &x in text {
         if x == b'_' {
             if !after_digit {
                 return None;
             }
             after_digit = false;
-        } else {
-            let digit = (x as char).to_digit(base)?;
+        } else if let Some(digit) = (x as char).to_digit(base) {
             value = value.saturating_mul(base).saturating_add(digit);
             after_digit = true;
+        } else if bytes::in_integer(x) {
+            return None;
+        } else {
+            break;
         }
+        length += 1;
     }
     if after_digit && value <= LARGEST {
-        Some(value)
+        Some((value, length))
     } else {
         None
     }
 }
 
-// The base that the token's first bytes name, and its digits.
-#[tactic(auto, unfolding(rules::specs::Tokens::integer, rules::specs::Tokens::starts))]
-fn split_base(token: &[u8]) -> (u32, &[u8])
-    ensures digits { digits_from result.0 0 false result.1.now ≡ integer token.now }
+// The base that the first bytes name, and how many bytes name it.
+#[tactic(auto, unfolding(rules::specs::Tokens::starts, crate::specs::Pieces::base_of))]
+fn base_of(text: &[u8]) -> (u32, usize)
+    ensures means { result ≡ base_of text.now }
     ensures low { 2 ≤ result.0 }
     ensures high { result.0 ≤ 16 }
+    ensures within { result.1 ≤ length text.now }
 {
-    match token {
-        [b'2', b'#', digits @ ..] => (2, digits),
-        [b'8', b'#', digits @ ..] => (8, digits),
-        [b'1', b'6', b'#', digits @ ..] => (16, digits),
-        _ => (10, token),
+    match text {
+        [b'2', b'#', ..] => (2, 2),
+        [b'8', b'#', ..] => (8, 2),
+        [b'1', b'6', b'#', ..] => (16, 3),
+        _ => (10, 0),
     }
 }
 
 // The integer at the start of the text.
-#[tactic(auto, using(crate::proofs::Shown::an_integer, crate::proofs::Shown::no_integer))]
+#[tactic(auto, using(crate::proofs::Bases::an_integer, crate::proofs::Bases::no_integer, crate::proofs::Bases::no_longer))]
 pub(crate) fn integer(text: &[u8]) -> Result<Piece, Fault>
     ensures { answered result ≡ shown (integer_piece (integer (run in_integer text.now)) (length (run in_integer text.now)) 0) }
 {
-    let token = bytes::run(text, bytes::in_integer);
-    let (base, digits) = split_base(token);
-    let value = value_of(digits, base).ok_or(Fault::BadInteger)?;
-    Ok(Piece::Token(Kind::Int, value, token.len()))
+    let (base, start) = base_of(text);
+    let (value, length) = value_of(&text[start..], base).ok_or(Fault::BadInteger)?;
+    Ok(Piece::Token(Kind::Int, value, start + length))
 }

@@ -15,7 +15,7 @@ pub(crate) enum Piece {
 }
 
 // The piece at the start of the text.
-#[tactic(auto, using(crate::proofs::Starts::starts_two, crate::proofs::Starts::two_long), unfolding(rules::specs::Tokens::piece, rules::specs::Tokens::is_blank, rules::specs::Tokens::is_digit, rules::specs::Tokens::within, crate::specs::Pieces::shown))]
+#[tactic(auto, unfolding(rules::specs::Tokens::piece, rules::specs::Tokens::starts, rules::specs::Tokens::is_blank, rules::specs::Tokens::is_digit, rules::specs::Tokens::within, crate::specs::Pieces::shown))]
 pub(crate) fn first(text: &[u8]) -> Result<Piece, Fault>
     requires { 0 < length text.now }
     ensures { answered result ≡ shown (piece (get_or text.now 0 0) text.now 0) }
@@ -25,20 +25,12 @@ pub(crate) fn first(text: &[u8]) -> Result<Piece, Fault>
     if x.is_ascii_whitespace() {
         return Ok(Piece::Gap(1));
     }
-    if text.starts_with(b"//") {
-        return Ok(Piece::Gap(bytes::run(text, bytes::in_line).len()));
+    match text {
+        [b'/', b'/', ..] => Ok(Piece::Gap(bytes::run(text, bytes::in_line).len())),
+        [b'/', b'*', ..] => Err(Fault::NoToken),
+        [b'(', b'*', ..] => comments::nested(text),
+        _ if bytes::starts_name(x) => words::word(text),
+        _ if x.is_ascii_digit() => integers::integer(text),
+        _ => symbols::symbol(text),
     }
-    if text.starts_with(b"/*") {
-        return Err(Fault::NoToken);
-    }
-    if text.starts_with(b"(*") {
-        return comments::nested(text);
-    }
-    if bytes::starts_name(x) {
-        return words::word(text);
-    }
-    if x.is_ascii_digit() {
-        return integers::integer(text);
-    }
-    symbols::symbol(text)
 }

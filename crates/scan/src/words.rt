@@ -88,12 +88,20 @@ fn reserved(word: &[u8]) -> Option<Kind>
     lookup(&RESERVED, word)
 }
 
+// The bytes of a name at the start of the text. No more of them are looked at than show a name that is too long.
+fn name_bytes(text: &[u8]) -> &[u8]
+    ensures { name_piece result.now 0 ≡ name_piece (run in_name text.now) 0 }
+{
+    let ahead = &text[..text.len().min(LONGEST + 1)];
+    bytes::run(ahead, bytes::in_name)
+}
+
 // The name or reserved word at the start of the text.
 #[tactic(auto, using(crate::proofs::Shown::a_name, crate::proofs::Shown::a_reserved, crate::proofs::Shown::no_name, crate::proofs::Shown::short))]
 pub(crate) fn word(text: &[u8]) -> Result<Piece, Fault>
     ensures { answered result ≡ shown (name_piece (run in_name text.now) 0) }
 {
-    let word = bytes::run(text, bytes::in_name);
+    let word = name_bytes(text);
     let length = word.len();
     if !is_name(word) {
         return Err(Fault::BadName);
