@@ -1,6 +1,6 @@
 // What requests are answered: each answer is a line.
+use crate::output::Output;
 use rules::{Compiled, Evaluated, FillError, Refusal, Report};
-use std::fmt;
 
 #[derive(Drop)]
 pub(crate) enum Answer<'a> {
@@ -15,86 +15,66 @@ pub(crate) enum Answer<'a> {
     Malformed,
 }
 
-impl fmt::Display for Answer<'_> {
-    fn fmt<W: fmt::Write>(&self, f: &mut fmt::Formatter<W>) -> fmt::Result {
+impl Answer<'_> {
+    pub(crate) fn put<P: Print>(&self, out: &mut Output<'_, P>) {
         match self {
-            Answer::Accepted { image, compiled } => write_accepted(f, image, *compiled),
-            Answer::Refused(refusal) => {
-                write!(f, "REFUSED {} {}", refusal.fault.number(), refusal.place)
-            }
-            Answer::Tree(numbers) => write_tree(f, numbers),
-            Answer::Ran { report, table } => write_run(f, *report, Table(table)),
-            Answer::Evaluated { told, table } => {
-                write!(
-                    f,
-                    "{} {} {}",
-                    told.outcome.number(),
-                    told.ticks,
-                    Table(table)
-                )
-            }
-            Answer::Filled(table) => write!(f, "0 {}", Table(table)),
-            Answer::NotFilled(error) => write!(f, "{}", error.number()),
-            Answer::Malformed => write!(f, "ERROR"),
+            Answer::Accepted { image, compiled } => put_accepted(out, image, *compiled),
+            Answer::Refused(refusal) => put_refused(out, *refusal),
+            Answer::Tree(numbers) => put_tree(out, numbers),
+            Answer::Ran { report, table } => put_run(out, *report, table),
+            Answer::Evaluated { told, table } => put_told(out, *told, table),
+            Answer::Filled(table) => put_filled(out, table),
+            Answer::NotFilled(error) => out.put_number(error.number()),
+            Answer::Malformed => out.put_all(b"ERROR"),
         }
+        out.put(b'\n');
     }
 }
 
 // The image, the bytes of its code, the depth and the worst case.
-fn write_accepted<W: fmt::Write>(
-    f: &mut fmt::Formatter<W>,
-    image: &[u8],
-    compiled: Compiled,
-) -> fmt::Result {
-    write!(f, "ACCEPTED ")?;
-    for byte in image {
-        write!(f, "{byte:02x}")?;
-    }
-    write!(
-        f,
-        " {} {} {}",
-        compiled.code, compiled.depth, compiled.worst
-    )
+fn put_accepted<P: Print>(out: &mut Output<'_, P>, image: &[u8], compiled: Compiled) {
+    out.put_all(b"ACCEPTED ");
+    out.put_hex(image);
+    out.put_field(compiled.code);
+    out.put_field(compiled.depth);
+    out.put_field(compiled.worst);
+}
+
+// Why a text is refused, and where.
+fn put_refused<P: Print>(out: &mut Output<'_, P>, refusal: Refusal) {
+    out.put_all(b"REFUSED");
+    out.put_field(refusal.fault.number());
+    out.put_field(refusal.place);
 }
 
 // How many numbers a tree has, and the numbers.
-fn write_tree<W: fmt::Write>(f: &mut fmt::Formatter<W>, numbers: &[u32]) -> fmt::Result {
-    write!(f, "TREE {}", numbers.len())?;
+fn put_tree<P: Print>(out: &mut Output<'_, P>, numbers: &[u32]) {
+    out.put_all(b"TREE");
+    out.put_field(numbers.len());
     for number in numbers {
-        write!(f, " {number}")?;
+        out.put_field(*number);
     }
-    Ok(())
 }
 
 // What a run reports, and the table that it left.
-fn write_run<W: fmt::Write>(
-    f: &mut fmt::Formatter<W>,
-    report: Report,
-    table: Table<'_>,
-) -> fmt::Result {
-    write!(
-        f,
-        "{} {} {} {} {table}",
-        report.outcome.number(),
-        report.ticks,
-        report.instructions,
-        report.offset
-    )
+fn put_run<P: Print>(out: &mut Output<'_, P>, report: Report, table: &[i32]) {
+    out.put_number(report.outcome.number());
+    out.put_field(report.ticks);
+    out.put_field(report.instructions);
+    out.put_field(report.offset);
+    out.put(b' ');
+    out.put_table(table);
 }
 
-// Values parted by commas, or a dash for none.
-#[derive(Clone, Copy)]
-struct Table<'a>(&'a [i32]);
+// What evaluating a text tells, and the table that it left.
+fn put_told<P: Print>(out: &mut Output<'_, P>, told: Evaluated, table: &[i32]) {
+    out.put_number(told.outcome.number());
+    out.put_field(told.ticks);
+    out.put(b' ');
+    out.put_table(table);
+}
 
-impl fmt::Display for Table<'_> {
-    fn fmt<W: fmt::Write>(&self, f: &mut fmt::Formatter<W>) -> fmt::Result {
-        let Some((first, rest)) = self.0.split_first() else {
-            return write!(f, "-");
-        };
-        write!(f, "{first}")?;
-        for value in rest {
-            write!(f, ",{value}")?;
-        }
-        Ok(())
-    }
+fn put_filled<P: Print>(out: &mut Output<'_, P>, table: &[i32]) {
+    out.put_all(b"0 ");
+    out.put_table(table);
 }
