@@ -2,79 +2,70 @@
 use crate::output::Output;
 use rules::{Compiled, Evaluated, FillError, Refusal, Report};
 
-#[derive(Drop)]
-pub(crate) enum Answer<'a> {
-    Accepted { image: &'a [u8], compiled: Compiled },
-    Refused(Refusal),
-    Tree(&'a [u32]),
-    Ran { report: Report, table: &'a [i32] },
-    Evaluated { told: Evaluated, table: &'a [i32] },
-    Filled(&'a [i32]),
-    NotFilled(FillError),
-    // To a line that is no request.
-    Malformed,
-}
+impl<P: Print> Output<'_, P> {
+    // The image of an accepted text, the bytes of its code, the depth and the worst case.
+    pub(crate) fn put_accepted(&mut self, image: &[u8], compiled: Compiled) {
+        self.put_all(b"ACCEPTED ");
+        self.put_hex(image);
+        self.put_field(compiled.code);
+        self.put_field(compiled.depth);
+        self.put_field(compiled.worst);
+        self.put(b'\n');
+    }
 
-impl Answer<'_> {
-    pub(crate) fn put<P: Print>(&self, out: &mut Output<'_, P>) {
-        match self {
-            Answer::Accepted { image, compiled } => put_accepted(out, image, *compiled),
-            Answer::Refused(refusal) => put_refused(out, *refusal),
-            Answer::Tree(numbers) => put_tree(out, numbers),
-            Answer::Ran { report, table } => put_run(out, *report, table),
-            Answer::Evaluated { told, table } => put_told(out, *told, table),
-            Answer::Filled(table) => put_filled(out, table),
-            Answer::NotFilled(error) => out.put_number(error.number()),
-            Answer::Malformed => out.put_all(b"ERROR"),
+    // Why a text is refused, and where.
+    pub(crate) fn put_refused(&mut self, refusal: Refusal) {
+        self.put_all(b"REFUSED");
+        self.put_field(refusal.fault.number());
+        self.put_field(refusal.place);
+        self.put(b'\n');
+    }
+
+    // How many numbers a tree has, and the numbers.
+    pub(crate) fn put_tree(&mut self, numbers: &[u32]) {
+        self.put_all(b"TREE");
+        self.put_field(numbers.len());
+        for number in numbers {
+            self.put_field(*number);
         }
-        out.put(b'\n');
+        self.put(b'\n');
     }
-}
 
-// The image, the bytes of its code, the depth and the worst case.
-fn put_accepted<P: Print>(out: &mut Output<'_, P>, image: &[u8], compiled: Compiled) {
-    out.put_all(b"ACCEPTED ");
-    out.put_hex(image);
-    out.put_field(compiled.code);
-    out.put_field(compiled.depth);
-    out.put_field(compiled.worst);
-}
-
-// Why a text is refused, and where.
-fn put_refused<P: Print>(out: &mut Output<'_, P>, refusal: Refusal) {
-    out.put_all(b"REFUSED");
-    out.put_field(refusal.fault.number());
-    out.put_field(refusal.place);
-}
-
-// How many numbers a tree has, and the numbers.
-fn put_tree<P: Print>(out: &mut Output<'_, P>, numbers: &[u32]) {
-    out.put_all(b"TREE");
-    out.put_field(numbers.len());
-    for number in numbers {
-        out.put_field(*number);
+    // What a run reports, and the table that it left.
+    pub(crate) fn put_run(&mut self, report: Report, table: &[i32]) {
+        self.put_number(report.outcome.number());
+        self.put_field(report.ticks);
+        self.put_field(report.instructions);
+        self.put_field(report.offset);
+        self.put_last(table);
     }
-}
 
-// What a run reports, and the table that it left.
-fn put_run<P: Print>(out: &mut Output<'_, P>, report: Report, table: &[i32]) {
-    out.put_number(report.outcome.number());
-    out.put_field(report.ticks);
-    out.put_field(report.instructions);
-    out.put_field(report.offset);
-    out.put(b' ');
-    out.put_table(table);
-}
+    // What evaluating a text tells, and the table that it left.
+    pub(crate) fn put_told(&mut self, told: Evaluated, table: &[i32]) {
+        self.put_number(told.outcome.number());
+        self.put_field(told.ticks);
+        self.put_last(table);
+    }
 
-// What evaluating a text tells, and the table that it left.
-fn put_told<P: Print>(out: &mut Output<'_, P>, told: Evaluated, table: &[i32]) {
-    out.put_number(told.outcome.number());
-    out.put_field(told.ticks);
-    out.put(b' ');
-    out.put_table(table);
-}
+    pub(crate) fn put_filled(&mut self, table: &[i32]) {
+        self.put(b'0');
+        self.put_last(table);
+    }
 
-fn put_filled<P: Print>(out: &mut Output<'_, P>, table: &[i32]) {
-    out.put_all(b"0 ");
-    out.put_table(table);
+    pub(crate) fn put_not_filled(&mut self, error: FillError) {
+        self.put_number(error.number());
+        self.put(b'\n');
+    }
+
+    // To a line that is no request.
+    pub(crate) fn put_error(&mut self) {
+        self.put_all(b"ERROR\n");
+    }
+
+    // A space and a table, which ends its line.
+    fn put_last(&mut self, table: &[i32]) {
+        self.put(b' ');
+        self.put_table(table);
+        self.put(b'\n');
+    }
 }

@@ -7,7 +7,6 @@ mod lines;
 mod output;
 mod requests;
 
-use answers::Answer;
 use lines::Line;
 use output::Output;
 use std::io::Read;
@@ -18,7 +17,7 @@ const CHUNK: usize = 32768;
 fn answer_line<P: Print>(line: &mut Line, out: &mut Output<'_, P>) {
     match line.bytes() {
         Some(bytes) => requests::answer(bytes, out),
-        None => Answer::Malformed.put(out),
+        None => out.put_error(),
     }
     line.clear();
 }

@@ -1,5 +1,4 @@
 // A request is read off its line, carried out and answered.
-use crate::answers::Answer;
 use crate::fields::{read_bytes, read_number, read_table};
 use crate::output::Output;
 use rules::Limits;
@@ -13,7 +12,7 @@ type Memory = [u32; Limits::MEMORY_NUMBERS];
 
 pub(crate) fn answer<P: Print>(line: &[u8], out: &mut Output<'_, P>) {
     if carry_out(line, out).is_none() {
-        Answer::Malformed.put(out);
+        out.put_error();
     }
 }
 
@@ -28,91 +27,93 @@ fn carry_out<P: Print>(line: &[u8], out: &mut Output<'_, P>) -> Option<()> {
         (b"R", Some(budget), Some(values), None) => {
             let budget = read_number(budget, u32::MAX)?;
             let table = read_table(values, &mut table)?;
-            run(bytes, table, budget).put(out);
+            run(bytes, table, budget, out);
         }
         (b"F", Some(count), None, None) => {
             let count = read_number(count, TABLE as u32)?;
-            fill(bytes, &mut table[..count as usize]).put(out);
+            fill(bytes, &mut table[..count as usize], out);
         }
-        (b"C", None, None, None) => answer_compile(bytes, Limits::IMAGE, out),
+        (b"C", None, None, None) => compile(bytes, Limits::IMAGE, out),
         (b"C", Some(capacity), None, None) => {
             let capacity = read_number(capacity, u32::MAX)?;
-            answer_compile(bytes, capacity as usize, out);
+            compile(bytes, capacity as usize, out);
         }
         (b"E", Some(budget), Some(values), None) => {
             let budget = read_number(budget, u32::MAX)?;
             let table = read_table(values, &mut table)?;
-            answer_evaluate(bytes, table, budget, out);
+            evaluate(bytes, table, budget, out);
         }
-        (b"P", None, None, None) => answer_parse(bytes, out),
+        (b"P", None, None, None) => parse(bytes, out),
         _ => return None,
     }
     Some(())
 }
 
+fn run<P: Print>(image: &[u8], table: &mut [i32], budget: u32, out: &mut Output<'_, P>) {
+    let report = run::run(image, table, budget);
+    out.put_run(report, table);
+}
+
+fn fill<P: Print>(image: &[u8], table: &mut [i32], out: &mut Output<'_, P>) {
+    match run::fill(image, table) {
+        Ok(()) => out.put_filled(table),
+        Err(error) => out.put_not_filled(error),
+    }
+}
+
 // The buffer has the published limit of bytes. No image is longer, so more room than that makes no difference.
-fn answer_compile<P: Print>(text: &[u8], capacity: usize, out: &mut Output<'_, P>) {
+fn compile<P: Print>(text: &[u8], capacity: usize, out: &mut Output<'_, P>) {
     let mut memory = [0; Limits::MEMORY_NUMBERS];
     let mut image = [0; Limits::IMAGE];
     let room = capacity.min(Limits::IMAGE);
-    compile(text, &mut memory, &mut image[..room]).put(out);
+    compile_in(text, &mut memory, &mut image[..room], out);
 }
 
-fn answer_evaluate<P: Print>(text: &[u8], table: &mut [i32], budget: u32, out: &mut Output<'_, P>) {
+fn evaluate<P: Print>(text: &[u8], table: &mut [i32], budget: u32, out: &mut Output<'_, P>) {
     let mut memory = [0; Limits::MEMORY_NUMBERS];
-    let mut image = [0; Limits::IMAGE];
-    evaluate(text, &mut memory, &mut image, table, budget).put(out);
+    evaluate_in(text, &mut memory, table, budget, out);
 }
 
-fn answer_parse<P: Print>(text: &[u8], out: &mut Output<'_, P>) {
+fn parse<P: Print>(text: &[u8], out: &mut Output<'_, P>) {
     let mut memory = [0; Limits::MEMORY_NUMBERS];
-    parse(text, &mut memory).put(out);
-}
-
-fn run<'a>(image: &[u8], table: &'a mut [i32], budget: u32) -> Answer<'a> {
-    let report = run::run(image, table, budget);
-    Answer::Ran { report, table }
-}
-
-fn fill<'a>(image: &[u8], table: &'a mut [i32]) -> Answer<'a> {
-    match run::fill(image, table) {
-        Ok(()) => Answer::Filled(table),
-        Err(error) => Answer::NotFilled(error),
-    }
+    parse_in(text, &mut memory, out);
 }
 
 // What follows are functions of their own because here the length of working memory is known by its type: nothing computes it from the numbers
 // themselves.
-fn compile<'a>(text: &[u8], memory: &mut Memory, image: &'a mut [u8]) -> Answer<'a> {
-    match compile::compile(text, memory, image) {
-        Ok(compiled) => Answer::Accepted {
-            image: &image[..compiled.image],
-            compiled,
-        },
-        Err(refusal) => Answer::Refused(refusal),
-    }
-}
-
-fn evaluate<'a>(
+fn compile_in<P: Print>(
     text: &[u8],
     memory: &mut Memory,
     image: &mut [u8],
-    table: &'a mut [i32],
+    out: &mut Output<'_, P>,
+) {
+    match compile::compile(text, memory, image) {
+        Ok(compiled) => out.put_accepted(&image[..compiled.image], compiled),
+        Err(refusal) => out.put_refused(refusal),
+    }
+}
+
+fn evaluate_in<P: Print>(
+    text: &[u8],
+    memory: &mut Memory,
+    table: &mut [i32],
     budget: u32,
-) -> Answer<'a> {
-    match compile::compile_and_run(text, memory, image, table, budget) {
-        Ok(told) => Answer::Evaluated { told, table },
-        Err(refusal) => Answer::Refused(refusal),
+    out: &mut Output<'_, P>,
+) {
+    let mut image = [0; Limits::IMAGE];
+    match compile::compile_and_run(text, memory, &mut image, table, budget) {
+        Ok(told) => out.put_told(told, table),
+        Err(refusal) => out.put_refused(refusal),
     }
 }
 
 // The tree lies behind the tokens.
-fn parse<'a>(text: &[u8], memory: &'a mut Memory) -> Answer<'a> {
+fn parse_in<P: Print>(text: &[u8], memory: &mut Memory, out: &mut Output<'_, P>) {
     match parse::parse(text, memory) {
         Ok(count) => {
             let from = Limits::TOKEN_NUMBERS;
-            Answer::Tree(&memory[from..from + count])
+            out.put_tree(&memory[from..from + count]);
         }
-        Err(refusal) => Answer::Refused(refusal),
+        Err(refusal) => out.put_refused(refusal),
     }
 }
