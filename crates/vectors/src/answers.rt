@@ -2,7 +2,7 @@
 use crate::output::Output;
 use rules::{Compiled, Evaluated, FillError, Refusal, Report};
 
-impl<P: Print> Output<'_, P> {
+impl<P: Print> Output<P> {
     // The image of an accepted text, the bytes of its code, the depth and the worst case.
     pub(crate) fn put_accepted(&mut self, image: &[u8], compiled: Compiled) {
         self.put_all(b"ACCEPTED ");

@@ -14,7 +14,7 @@ use std::io::Read;
 // How many bytes are read at once.
 const CHUNK: usize = 32768;
 
-fn answer_line<P: Print>(line: &mut Line, out: &mut Output<'_, P>) {
+fn answer_line<P: Print>(line: &mut Line, out: &mut Output<P>) {
     match line.bytes() {
         Some(bytes) => requests::answer(bytes, out),
         None => out.put_error(),
@@ -22,7 +22,7 @@ fn answer_line<P: Print>(line: &mut Line, out: &mut Output<'_, P>) {
     line.clear();
 }
 
-fn serve_bytes<P: Print>(bytes: &[u8], line: &mut Line, out: &mut Output<'_, P>) {
+fn serve_bytes<P: Print>(bytes: &[u8], line: &mut Line, out: &mut Output<P>) {
     for byte in bytes {
         if *byte == b'\n' {
             answer_line(line, out);
@@ -34,7 +34,7 @@ fn serve_bytes<P: Print>(bytes: &[u8], line: &mut Line, out: &mut Output<'_, P>)
 
 // Nothing says that input ends, and a proved loop has to: so reads are counted, up to a number that no run uses up. A read that fails ends the
 // input, too.
-fn serve<P: Print>(input: &mut impl Read, line: &mut Line, out: &mut Output<'_, P>) {
+fn serve<P: Print>(input: &mut impl Read, line: &mut Line, out: &mut Output<P>) {
     let mut chunk = [0; CHUNK];
     for _ in 0..u64::MAX {
         let count = input.read(&mut chunk).unwrap_or(0);
@@ -46,9 +46,10 @@ fn serve<P: Print>(input: &mut impl Read, line: &mut Line, out: &mut Output<'_, 
 }
 
 fn main(rt: HostRuntime) {
+    let mut input = rt.reader();
     let mut line = Line::new();
-    let mut out = Output::new(&rt);
-    serve(&mut rt.reader(), &mut line, &mut out);
+    let mut out = Output::new(rt);
+    serve(&mut input, &mut line, &mut out);
     // The last line needs no end.
     if !line.is_empty() {
         answer_line(&mut line, &mut out);

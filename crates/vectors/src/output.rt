@@ -6,15 +6,15 @@ const ROOM: usize = 32768;
 const DIGITS: &[u8; 16] = b"0123456789abcdef";
 
 #[derive(Drop)]
-pub(crate) struct Output<'a, P> {
-    rt: &'a P,
+pub(crate) struct Output<P> {
+    rt: P,
     bytes: [u8; ROOM],
     // How many of the bytes wait.
     waiting: usize,
 }
 
-impl<'a, P: Print> Output<'a, P> {
-    pub(crate) fn new(rt: &'a P) -> Self {
+impl<P: Print> Output<P> {
+    pub(crate) fn new(rt: P) -> Self {
         Self {
             rt,
             bytes: [0; ROOM],
@@ -25,9 +25,7 @@ impl<'a, P: Print> Output<'a, P> {
     // Writes the bytes that wait. A write that fails has nobody to be told of it, and its bytes are let go.
     #[inline(never)]
     pub(crate) fn flush(&mut self) {
-        if let Some(bytes) = self.bytes.get(..self.waiting) {
-            let _ = self.rt.write_all(bytes);
-        }
+        let _ = self.rt.write_all(&self.bytes[..self.waiting.min(ROOM)]);
         self.waiting = 0;
     }
 
