@@ -1,100 +1,71 @@
 // What requests are answered: each answer is a line.
+use crate::output::Output;
 use rules::{Compiled, Evaluated, FillError, Refusal, Report};
-use std::fmt;
 
-#[derive(Drop)]
-pub(crate) enum Answer<'a> {
-    Accepted { image: &'a [u8], compiled: Compiled },
-    Refused(Refusal),
-    Tree(&'a [u32]),
-    Ran { report: Report, table: &'a [i32] },
-    Evaluated { told: Evaluated, table: &'a [i32] },
-    Filled(&'a [i32]),
-    NotFilled(FillError),
+impl<P: Print> Output<P> {
+    // The image of an accepted text, the bytes of its code, the depth and the worst case.
+    pub(crate) fn put_accepted(&mut self, image: &[u8], compiled: Compiled) {
+        self.put_all(b"ACCEPTED ");
+        self.put_hex(image);
+        self.put_field(compiled.code);
+        self.put_field(compiled.depth);
+        self.put_field(compiled.worst);
+        self.put(b'\n');
+    }
+
+    // Why a text is refused, and where.
+    pub(crate) fn put_refused(&mut self, refusal: Refusal) {
+        self.put_all(b"REFUSED");
+        self.put_field(refusal.fault.number());
+        self.put_field(refusal.place);
+        self.put(b'\n');
+    }
+
+    // How many numbers a tree has, and the numbers.
+    pub(crate) fn put_tree(&mut self, numbers: &[u32]) {
+        self.put_all(b"TREE");
+        self.put_field(numbers.len());
+        for number in numbers {
+            self.put_field(*number);
+        }
+        self.put(b'\n');
+    }
+
+    // What a run reports, and the table that it left.
+    pub(crate) fn put_run(&mut self, report: Report, table: &[i32]) {
+        self.put_number(report.outcome.number());
+        self.put_field(report.ticks);
+        self.put_field(report.instructions);
+        self.put_field(report.offset);
+        self.put_last(table);
+    }
+
+    // What evaluating a text tells, and the table that it left.
+    pub(crate) fn put_told(&mut self, told: Evaluated, table: &[i32]) {
+        self.put_number(told.outcome.number());
+        self.put_field(told.ticks);
+        self.put_last(table);
+    }
+
+    pub(crate) fn put_filled(&mut self, table: &[i32]) {
+        self.put(b'0');
+        self.put_last(table);
+    }
+
+    pub(crate) fn put_not_filled(&mut self, error: FillError) {
+        self.put_number(error.number());
+        self.put(b'\n');
+    }
+
     // To a line that is no request.
-    Malformed,
-}
-
-impl fmt::Display for Answer<'_> {
-    fn fmt<W: fmt::Write>(&self, f: &mut fmt::Formatter<W>) -> fmt::Result {
-        match self {
-            Answer::Accepted { image, compiled } => write_accepted(f, image, *compiled),
-            Answer::Refused(refusal) => {
-                write!(f, "REFUSED {} {}", refusal.fault.number(), refusal.place)
-            }
-            Answer::Tree(numbers) => write_tree(f, numbers),
-            Answer::Ran { report, table } => write_run(f, *report, Table(table)),
-            Answer::Evaluated { told, table } => {
-                write!(
-                    f,
-                    "{} {} {}",
-                    told.outcome.number(),
-                    told.ticks,
-                    Table(table)
-                )
-            }
-            Answer::Filled(table) => write!(f, "0 {}", Table(table)),
-            Answer::NotFilled(error) => write!(f, "{}", error.number()),
-            Answer::Malformed => write!(f, "ERROR"),
-        }
+    pub(crate) fn put_error(&mut self) {
+        self.put_all(b"ERROR\n");
     }
-}
 
-// The image, the bytes of its code, the depth and the worst case.
-fn write_accepted<W: fmt::Write>(
-    f: &mut fmt::Formatter<W>,
-    image: &[u8],
-    compiled: Compiled,
-) -> fmt::Result {
-    write!(f, "ACCEPTED ")?;
-    for byte in image {
-        write!(f, "{byte:02x}")?;
-    }
-    write!(
-        f,
-        " {} {} {}",
-        compiled.code, compiled.depth, compiled.worst
-    )
-}
-
-// How many numbers a tree has, and the numbers.
-fn write_tree<W: fmt::Write>(f: &mut fmt::Formatter<W>, numbers: &[u32]) -> fmt::Result {
-    write!(f, "TREE {}", numbers.len())?;
-    for number in numbers {
-        write!(f, " {number}")?;
-    }
-    Ok(())
-}
-
-// What a run reports, and the table that it left.
-fn write_run<W: fmt::Write>(
-    f: &mut fmt::Formatter<W>,
-    report: Report,
-    table: Table<'_>,
-) -> fmt::Result {
-    write!(
-        f,
-        "{} {} {} {} {table}",
-        report.outcome.number(),
-        report.ticks,
-        report.instructions,
-        report.offset
-    )
-}
-
-// Values parted by commas, or a dash for none.
-#[derive(Clone, Copy)]
-struct Table<'a>(&'a [i32]);
-
-impl fmt::Display for Table<'_> {
-    fn fmt<W: fmt::Write>(&self, f: &mut fmt::Formatter<W>) -> fmt::Result {
-        let Some((first, rest)) = self.0.split_first() else {
-            return write!(f, "-");
-        };
-        write!(f, "{first}")?;
-        for value in rest {
-            write!(f, ",{value}")?;
-        }
-        Ok(())
+    // A space and a table, which ends its line.
+    fn put_last(&mut self, table: &[i32]) {
+        self.put(b' ');
+        self.put_table(table);
+        self.put(b'\n');
     }
 }
