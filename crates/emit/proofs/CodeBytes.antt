@@ -126,6 +126,12 @@ bytes-s x p e n r = ap enc_all (move_s x p e n [] r) ∙ bytes_before (code_s x 
 pub bytes-l : (x : List) (p e n : ℕ) (r : L.List Instr) → enc_all (code_l x p e n r) ≡ enc_all (code_l x p e n []) ++ enc_all r
 bytes-l x p e n r = ap enc_all (move_l x p e n [] r) ∙ bytes_before (code_l x p e n []) r
 
+pub bytes-b : (x : Brs) (p e n : ℕ) (r : L.List Instr) → enc_all (code_b x p e n r) ≡ enc_all (code_b x p e n []) ++ enc_all r
+bytes-b x p e n r = ap enc_all (move_b x p e n [] r) ∙ bytes_before (code_b x p e n []) r
+
+pub bytes-g : (x : Grps) (p z e n : ℕ) (r : L.List Instr) → enc_all (code_g x p z e n r) ≡ enc_all (code_g x p z e n []) ++ enc_all r
+bytes-g x p z e n r = ap enc_all (move_g x p z e n [] r) ∙ bytes_before (code_g x p z e n []) r
+
 -- A part's bytes are as many as its size
 
 pub length_instr : (i : Instr) → length (enc i []) ≡ length_of i

@@ -108,6 +108,14 @@ module _ {m : List ℕ} {vs : List Variable} {i n tag : ℕ} (sees : tag ≡ (ce
           let f = o.0 in
           record { left = left; lies = o.1; place = omega arith; count = omega arith }
 
+  -- no more than all
+  pub counts-few : (tag ≡ FINISH → ⊥) → length vs ≤ n → Counted m vs i n → ⊥
+  counts-few some full c = go c.left c.lies c.count
+    where
+      go : (left : List Variable) → Lies m i (variable_cells left) → n + length left ≡ length vs → ⊥
+      go [] l count = one_left sees some l
+      go (v ∷ left) l count = omega arith
+
   -- at the end all of them, and their last cell is passed
   pub counts_all : tag ≡ FINISH → {j : ℕ} → j ≡ behind m i → Counted m vs i n → (j ≡ token_numbers + length (variable_cells vs)) × (n ≡ length vs)
   counts_all e past c =
