@@ -1,10 +1,28 @@
 // Comments in parentheses: they nest.
-ghost use Rattle.std.specs.Prelude.{◌≡◌, ◌≤◌, length, drop};
-ghost use Rattle.rules.specs.Tokens.{comment, comment_piece};
+ghost use Rattle.std.specs.Prelude.{◌≡◌, ◌≤◌, length, drop, IsTrue};
+ghost use Rattle.rules.specs.Tokens.{starts, comment, comment_piece};
 ghost use Rattle.scan.specs.Pieces.{answered, shown};
 
 use super::pieces::Piece;
 use rules::Fault;
+
+// Whether the text starts with what opens a comment.
+#[tactic(auto, unfolding(rules::specs::Tokens::starts))]
+fn opens(text: &[u8]) -> bool
+    ensures value { result ≡ starts 40 42 text.now }
+    ensures bound { IsTrue result → 2 ≤ length text.now }
+{
+    matches!(text, [b'(', b'*', ..])
+}
+
+// Whether the text starts with what closes a comment.
+#[tactic(auto, unfolding(rules::specs::Tokens::starts))]
+fn closes(text: &[u8]) -> bool
+    ensures value { result ≡ starts 42 41 text.now }
+    ensures bound { IsTrue result → 2 ≤ length text.now }
+{
+    matches!(text, [b'*', b')', ..])
+}
 
 // A comment that opens at the start of the text. Nesting is a count.
 pub(crate) fn nested(text: &[u8]) -> Result<Piece, Fault>
@@ -14,10 +32,10 @@ pub(crate) fn nested(text: &[u8]) -> Result<Piece, Fault>
     let mut rest = &text[2..];
     let mut open: usize = 1;
     while open > 0 {
-        if rest.starts_with(b"(*") {
+        if opens(rest) {
             open += 1;
             rest = &rest[2..];
-        } else if rest.starts_with(b"*)") {
+        } else if closes(rest) {
             open -= 1;
             rest = &rest[2..];
         } else if rest.is_empty() {

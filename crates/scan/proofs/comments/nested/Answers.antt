@@ -1,22 +1,21 @@
 use Rattle.std.proofs.Common.{sym, ◌∙◌, rules, arith}
 use Rattle.rules.specs.Tokens.{comment_piece}
 use Rattle.scan.specs.Pieces.{shown}
-use Rattle.scan.proofs.Starts.{starts_two}
 use Rattle.scan.proofs.Nested.{begins, opens, closes, passes, unclosed, closed}
 use Rattle.scan.proofs.comments.nested.Goals as goal
 
 pub loop-open-init : goal.loop-open-init
 loop-open-init c = begins _ c.requires
 
-pub loop-open-preserved-then-starts_with : goal.loop-open-preserved-then-starts_with
-loop-open-preserved-then-starts_with c =
-    opens c.loop-open.invariant c.loop-open-test.true (sym (starts_two 40 42 _) ∙ sym c.starts_with.ensures.value ∙ c.if-starts_with.true)
+pub loop-open-preserved-then-opens : goal.loop-open-preserved-then-opens
+loop-open-preserved-then-opens c =
+    opens c.loop-open.invariant c.loop-open-test.true (sym c.opens.ensures.value ∙ c.if-opens.true)
 
-pub loop-open-preserved-then-starts_with-2 : goal.loop-open-preserved-then-starts_with-2
-loop-open-preserved-then-starts_with-2 c =
+pub loop-open-preserved-then-closes : goal.loop-open-preserved-then-closes
+loop-open-preserved-then-closes c =
     closes c.loop-open.invariant c.loop-open-test.true
-    (sym (starts_two 40 42 _) ∙ sym c.starts_with.ensures.value ∙ c.if-starts_with.false)
-    (sym (starts_two 42 41 _) ∙ sym c.starts_with-else-starts_with.ensures.value ∙ c.if-starts_with-2.true)
+    (sym c.opens.ensures.value ∙ c.if-opens.false)
+    (sym c.closes.ensures.value ∙ c.if-closes.true)
 
 pub returns-then-is_empty : goal.returns-then-is_empty
 unfolding shown comment_piece
@@ -25,8 +24,8 @@ returns-then-is_empty c = rw (unclosed c.loop-open.invariant c.loop-open-test.tr
 pub loop-open-preserved : goal.loop-open-preserved
 loop-open-preserved c =
     passes c.loop-open.invariant c.loop-open-test.true
-    (sym (starts_two 40 42 _) ∙ sym c.starts_with.ensures.value ∙ c.if-starts_with.false)
-    (sym (starts_two 42 41 _) ∙ sym c.starts_with-else-starts_with.ensures.value ∙ c.if-starts_with-2.false)
+    (sym c.opens.ensures.value ∙ c.if-opens.false)
+    (sym c.closes.ensures.value ∙ c.if-closes.false)
     (search rules)
 
 pub returns : goal.returns
