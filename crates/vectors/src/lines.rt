@@ -18,11 +18,13 @@ impl Line {
         }
     }
 
-    // A byte is kept if there is room.
-    pub(crate) fn push(&mut self, byte: u8) {
-        if self.held < LONGEST {
-            self.bytes[self.held] = byte;
-            self.held += 1;
+    // Bytes are kept if there is room for them.
+    pub(crate) fn push_all(&mut self, bytes: &[u8]) {
+        if let Some(room) = self.bytes.get_mut(self.held..)
+            && let Some(place) = room.get_mut(..bytes.len())
+        {
+            place.copy_from_slice(bytes);
+            self.held += bytes.len();
         } else {
             self.held = LONGEST + 1;
         }

@@ -22,13 +22,15 @@ fn answer_line<P: Print>(line: &mut Line, out: &mut Output<P>) {
     line.clear();
 }
 
+// What stands before the first end of a line belongs to the line that is being read; behind each end a new one begins.
 fn serve_bytes<P: Print>(bytes: &[u8], line: &mut Line, out: &mut Output<P>) {
-    for byte in bytes {
-        if *byte == b'\n' {
-            answer_line(line, out);
-        } else {
-            line.push(*byte);
-        }
+    let mut pieces = bytes.split(|byte| *byte == b'\n');
+    if let Some(first) = pieces.next() {
+        line.push_all(first);
+    }
+    for piece in pieces {
+        answer_line(line, out);
+        line.push_all(piece);
     }
 }
 

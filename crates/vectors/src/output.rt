@@ -7,25 +7,26 @@ const DIGITS: &[u8; 16] = b"0123456789abcdef";
 
 #[derive(Drop)]
 pub(crate) struct Output<P> {
-    rt: P,
+    writer: P,
     bytes: [u8; ROOM],
     // How many of the bytes wait.
     waiting: usize,
 }
 
 impl<P: Print> Output<P> {
-    pub(crate) fn new(rt: P) -> Self {
+    pub(crate) fn new(writer: P) -> Self {
         Self {
-            rt,
+            writer,
             bytes: [0; ROOM],
             waiting: 0,
         }
     }
 
-    // Writes the bytes that wait. A write that fails has nobody to be told of it, and its bytes are let go.
+    // Writes the bytes that wait. A write that fails has nobody to be told of it, and its bytes are let go. (Loops that put bytes are
+    // quicker where this is no part of them.)
     #[inline(never)]
     pub(crate) fn flush(&mut self) {
-        let _ = self.rt.write_all(&self.bytes[..self.waiting.min(ROOM)]);
+        let _ = self.writer.write_all(&self.bytes[..self.waiting.min(ROOM)]);
         self.waiting = 0;
     }
 

@@ -24,10 +24,14 @@ fn carry_out<P: Print>(line: &[u8], out: &mut Output<P>) -> Option<()> {
     let letter = fields.next()?;
     let bytes = read_bytes(fields.next()?, &mut room)?;
     match (letter, fields.next(), fields.next(), fields.next()) {
-        (b"R", Some(budget), Some(values), None) => {
+        (letter, Some(budget), Some(values), None) => {
             let budget = read_number(budget, u32::MAX)?;
             let table = read_table(values, &mut table)?;
-            run(bytes, table, budget, out);
+            match letter {
+                b"R" => run(bytes, table, budget, out),
+                b"E" => evaluate(bytes, table, budget, out),
+                _ => return None,
+            }
         }
         (b"F", Some(count), None, None) => {
             let count = read_number(count, TABLE as u32)?;
@@ -37,11 +41,6 @@ fn carry_out<P: Print>(line: &[u8], out: &mut Output<P>) -> Option<()> {
         (b"C", Some(capacity), None, None) => {
             let capacity = read_number(capacity, u32::MAX)?;
             compile(bytes, capacity as usize, out);
-        }
-        (b"E", Some(budget), Some(values), None) => {
-            let budget = read_number(budget, u32::MAX)?;
-            let table = read_table(values, &mut table)?;
-            evaluate(bytes, table, budget, out);
         }
         (b"P", None, None, None) => parse(bytes, out),
         _ => return None,
