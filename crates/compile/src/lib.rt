@@ -44,10 +44,14 @@ pub fn compile_and_run(
     ensures writes { image.new ≡ buffer_after (compile (length memory.old) (length image.old) text.now) image.old }
     ensures clears { memory.new ≡ memory_after (compile (length memory.old) (length image.old) text.now) memory.old }
 {
-    let compiled = compile(text, memory, image)?;
-    let report = run::run(&image[..compiled.image], table, budget);
-    Ok(Evaluated {
-        outcome: report.outcome,
-        ticks: report.ticks,
-    })
+    match compile(text, memory, image) {
+        Ok(compiled) => {
+            let report = run::run(&image[..compiled.image], table, budget);
+            Ok(Evaluated {
+                outcome: report.outcome,
+                ticks: report.ticks,
+            })
+        }
+        Err(refusal) => Err(refusal),
+    }
 }

@@ -106,8 +106,6 @@ pub extern "C" fn moffatrell_run(
 pub extern "C" fn moffatrell_fill(image: &[u8], table: &mut [i32]) -> u32
     ensures { record { answer = result; table = table.new } ≡ fill_image image.now table.old }
 {
-    match run::fill(image, table) {
-        Ok(()) => 0,
-        Err(error) => error.number(),
-    }
+    let answer = run::fill(image, table);
+    rules::fill_number(answer)
 }
