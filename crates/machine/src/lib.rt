@@ -15,6 +15,7 @@ use codes::{Instruction, Loop, Operator, Prefix};
 use rules::Limits;
 
 // That the height is within the limit is no invariant of the type, and the stack no vector of that capacity: `step` answers for any height.
+// Its arrays are read and written in copies of their own: an index at run time into the whole machine would copy all of it.
 #[derive(Clone, Copy)]
 pub struct Machine {
     pub stack: [i32; Machine::STACK],
@@ -69,10 +70,14 @@ impl Machine {
         ensures view { view result ≡ pushed v (view self) }
         ensures height { result.height ≡ self.height + 1 }
     {
-        let mut next = self;
-        next.stack[self.height] = v;
-        next.height += 1;
-        next
+        let mut stack = self.stack;
+        stack[self.height] = v;
+        let height = self.height + 1;
+        Machine {
+            stack,
+            height,
+            ..self
+        }
     }
 
     fn pop(self) -> Self
@@ -92,16 +97,17 @@ impl Machine {
         if self.height <= depth {
             return Err(Stop::Broken);
         }
-        Ok(self.stack[self.height - 1 - depth])
+        let stack = self.stack;
+        Ok(stack[self.height - 1 - depth])
     }
 
     fn hold(self, level: usize, v: i32) -> Self
         requires { level < for_limit }
         ensures view { view result ≡ holding level v (view self) }
     {
-        let mut next = self;
-        next.held[level] = v;
-        next
+        let mut held = self.held;
+        held[level] = v;
+        Machine { held, ..self }
     }
 
     // n bytes on.
@@ -238,7 +244,8 @@ impl Machine {
         if !may_count(l, vars, table) {
             return Err(Stop::Broken);
         }
-        Ok((table[l.slot], self.held[l.level]))
+        let held = self.held;
+        Ok((table[l.slot], held[l.level]))
     }
 
     fn first(self, l: Loop, code: &[u8], vars: &[u8], table: &[i32]) -> Result<Self, Stop>
