@@ -2,13 +2,13 @@
 #![tactic(auto)]
 
 ghost use Rattle.std.specs.Prelude.{◌||◌, ◌≡◌, ◌+◌, ◌-◌, ◌≤◌, ◌<◌, ltb, drop};
-ghost use Rattle.rules.specs.Codes.{CONST, LOAD, UN, BIN, JUMP, SPAN, DROP, HOLD, FIRST, NEXT, length_of, decode};
+ghost use Rattle.rules.specs.Codes.{CONST, LOAD, UN, BIN, JUMP, SPAN, DROP, HOLD, FIRST, NEXT, decode};
 ghost use Rattle.rules.specs.Limits.{stack_limit, for_limit};
 ghost use Rattle.rules.specs.Machine.{is_tick, code_in};
 ghost use Rattle.rules.specs.Numbers.{is_zero};
-ghost use Rattle.codes.specs.Table.{un_of, bin_of, instr_of};
+ghost use Rattle.codes.specs.Table.{un_of, bin_of};
 ghost use Rattle.variables.specs.Slots.{types_in};
-ghost use Rattle.machine.specs.Stepping.{view, move, only, holding, pushed, popped, ahead, does, stepped, stop_for, Does, DoesIn, DoesOn, Ticks, Stores, Turns, Puts, Jumps, Shows, Counts, branch_of, taken, may_count, fresh, Ready};
+ghost use Rattle.machine.specs.Stepping.{view, move, only, holding, pushed, popped, ahead, stepped, stop_for, Does, DoesIn, DoesOn, Ticks, Stores, Turns, Puts, Jumps, Shows, Counts, branch_of, taken, may_count, fresh, Ready};
 
 use arith::Trap;
 use codes::{Instruction, Loop, Operator, Prefix};
@@ -272,18 +272,23 @@ impl Machine {
         Ok(landed)
     }
 
-    // One instruction is carried out.
-    fn execute(
+    // What stands at the machine's offset is carried out. Where the run ends the machine is the one before.
+    // The arms stand here, as a function between would copy the machine once more.
+    pub fn step(
         self,
-        i: Instruction,
         code: &[u8],
         vars: &[u8],
         table: &mut [i32],
         budget: u32,
     ) -> Result<Self, Stop>
-        requires { Ready (length_of (instr_of i)) self }
-        ensures { only table.new (move self result) ≡ does (code_in (types_in vars.now) code.now stack_limit) budget (instr_of i) (view self) table.old }
+        ensures { only table.new (move self result) ≡ stepped (code_in (types_in vars.now) code.now stack_limit) budget self table.old }
     {
+        if Machine::STACK < self.height {
+            return Err(Stop::Broken);
+        }
+        let Some(i) = codes::decode(code, self.at) else {
+            return Err(Stop::Broken);
+        };
         match i {
             Instruction::Tick => self.tick(budget),
             Instruction::Const(v) => self.put(5, v),
@@ -301,25 +306,6 @@ impl Machine {
             Instruction::Next(l) => self.next(l, code, vars, table),
             Instruction::Halt => Err(Stop::Done),
         }
-    }
-
-    // What stands at the machine's offset is carried out. Where the run ends the machine is the one before.
-    pub fn step(
-        self,
-        code: &[u8],
-        vars: &[u8],
-        table: &mut [i32],
-        budget: u32,
-    ) -> Result<Self, Stop>
-        ensures { only table.new (move self result) ≡ stepped (code_in (types_in vars.now) code.now stack_limit) budget self table.old }
-    {
-        if Machine::STACK < self.height {
-            return Err(Stop::Broken);
-        }
-        let Some(i) = codes::decode(code, self.at) else {
-            return Err(Stop::Broken);
-        };
-        self.execute(i, code, vars, table, budget)
     }
 }
 
