@@ -142,14 +142,15 @@ impl Machine {
         Ok(self.push(v).advance(n))
     }
 
+    // No call of `put`: its answer would be copied into this one.
     fn load(self, table: &[i32], slot: usize) -> Result<Self, Stop>
         requires { Ready 2 self }
         ensures { DoesOn table.now result (LOAD slot) self }
     {
-        if table.len() <= slot {
+        if table.len() <= slot || Machine::STACK <= self.height {
             return Err(Stop::Broken);
         }
-        self.put(2, table[slot])
+        Ok(self.push(table[slot]).advance(2))
     }
 
     fn store(self, vars: &[u8], table: &mut [i32], slot: usize) -> Result<Self, Stop>
