@@ -2,19 +2,20 @@
 #![tactic(auto)]
 
 ghost use Rattle.std.specs.Prelude.{◌||◌, ◌≡◌, ◌+◌, ◌-◌, ◌≤◌, ◌<◌, ltb, drop};
-ghost use Rattle.rules.specs.Codes.{CONST, LOAD, UN, BIN, JUMP, SPAN, DROP, HOLD, FIRST, NEXT, length_of, decode};
+ghost use Rattle.rules.specs.Codes.{CONST, LOAD, UN, BIN, JUMP, SPAN, DROP, HOLD, FIRST, NEXT, decode};
 ghost use Rattle.rules.specs.Limits.{stack_limit, for_limit};
 ghost use Rattle.rules.specs.Machine.{is_tick, code_in};
 ghost use Rattle.rules.specs.Numbers.{is_zero};
-ghost use Rattle.codes.specs.Table.{un_of, bin_of, instr_of};
+ghost use Rattle.codes.specs.Table.{un_of, bin_of};
 ghost use Rattle.variables.specs.Slots.{types_in};
-ghost use Rattle.machine.specs.Stepping.{view, move, only, holding, pushed, popped, ahead, does, stepped, stop_for, Does, DoesIn, DoesOn, Ticks, Stores, Turns, Puts, Jumps, Shows, Counts, branch_of, taken, may_count, fresh, Ready};
+ghost use Rattle.machine.specs.Stepping.{view, move, only, holding, pushed, popped, ahead, stepped, stop_for, Does, DoesIn, DoesOn, Ticks, Stores, Turns, Puts, Jumps, Shows, Counts, branch_of, taken, may_count, fresh, Ready};
 
 use arith::Trap;
 use codes::{Instruction, Loop, Operator, Prefix};
 use rules::Limits;
 
 // That the height is within the limit is no invariant of the type, and the stack no vector of that capacity: `step` answers for any height.
+// Its arrays are read and written in copies of their own: an index at run time into the whole machine would copy all of it.
 #[derive(Clone, Copy)]
 pub struct Machine {
     pub stack: [i32; Machine::STACK],
@@ -69,10 +70,14 @@ impl Machine {
         ensures view { view result ≡ pushed v (view self) }
         ensures height { result.height ≡ self.height + 1 }
     {
-        let mut next = self;
-        next.stack[self.height] = v;
-        next.height += 1;
-        next
+        let mut stack = self.stack;
+        stack[self.height] = v;
+        let height = self.height + 1;
+        Machine {
+            stack,
+            height,
+            ..self
+        }
     }
 
     fn pop(self) -> Self
@@ -92,16 +97,17 @@ impl Machine {
         if self.height <= depth {
             return Err(Stop::Broken);
         }
-        Ok(self.stack[self.height - 1 - depth])
+        let stack = self.stack;
+        Ok(stack[self.height - 1 - depth])
     }
 
     fn hold(self, level: usize, v: i32) -> Self
         requires { level < for_limit }
         ensures view { view result ≡ holding level v (view self) }
     {
-        let mut next = self;
-        next.held[level] = v;
-        next
+        let mut held = self.held;
+        held[level] = v;
+        Machine { held, ..self }
     }
 
     // n bytes on.
@@ -136,14 +142,15 @@ impl Machine {
         Ok(self.push(v).advance(n))
     }
 
+    // No call of `put`: its answer would be copied into this one.
     fn load(self, table: &[i32], slot: usize) -> Result<Self, Stop>
         requires { Ready 2 self }
         ensures { DoesOn table.now result (LOAD slot) self }
     {
-        if table.len() <= slot {
+        if table.len() <= slot || Machine::STACK <= self.height {
             return Err(Stop::Broken);
         }
-        self.put(2, table[slot])
+        Ok(self.push(table[slot]).advance(2))
     }
 
     fn store(self, vars: &[u8], table: &mut [i32], slot: usize) -> Result<Self, Stop>
@@ -238,7 +245,8 @@ impl Machine {
         if !may_count(l, vars, table) {
             return Err(Stop::Broken);
         }
-        Ok((table[l.slot], self.held[l.level]))
+        let held = self.held;
+        Ok((table[l.slot], held[l.level]))
     }
 
     fn first(self, l: Loop, code: &[u8], vars: &[u8], table: &[i32]) -> Result<Self, Stop>
@@ -265,18 +273,23 @@ impl Machine {
         Ok(landed)
     }
 
-    // One instruction is carried out.
-    fn execute(
+    // What stands at the machine's offset is carried out. Where the run ends the machine is the one before.
+    // The arms stand here, as a function between would copy the machine once more.
+    pub fn step(
         self,
-        i: Instruction,
         code: &[u8],
         vars: &[u8],
         table: &mut [i32],
         budget: u32,
     ) -> Result<Self, Stop>
-        requires { Ready (length_of (instr_of i)) self }
-        ensures { only table.new (move self result) ≡ does (code_in (types_in vars.now) code.now stack_limit) budget (instr_of i) (view self) table.old }
+        ensures { only table.new (move self result) ≡ stepped (code_in (types_in vars.now) code.now stack_limit) budget self table.old }
     {
+        if Machine::STACK < self.height {
+            return Err(Stop::Broken);
+        }
+        let Some(i) = codes::decode(code, self.at) else {
+            return Err(Stop::Broken);
+        };
         match i {
             Instruction::Tick => self.tick(budget),
             Instruction::Const(v) => self.put(5, v),
@@ -294,25 +307,6 @@ impl Machine {
             Instruction::Next(l) => self.next(l, code, vars, table),
             Instruction::Halt => Err(Stop::Done),
         }
-    }
-
-    // What stands at the machine's offset is carried out. Where the run ends the machine is the one before.
-    pub fn step(
-        self,
-        code: &[u8],
-        vars: &[u8],
-        table: &mut [i32],
-        budget: u32,
-    ) -> Result<Self, Stop>
-        ensures { only table.new (move self result) ≡ stepped (code_in (types_in vars.now) code.now stack_limit) budget self table.old }
-    {
-        if Machine::STACK < self.height {
-            return Err(Stop::Broken);
-        }
-        let Some(i) = codes::decode(code, self.at) else {
-            return Err(Stop::Broken);
-        };
-        self.execute(i, code, vars, table, budget)
     }
 }
 
