@@ -16,12 +16,13 @@ use rules::Limits;
 
 // That the height is within the limit is no invariant of the type, and the stack no vector of that capacity: `step` answers for any height.
 // Its arrays are read and written in copies of their own: an index at run time into the whole machine would copy all of it.
+// A number stands before each array, so that in a step's answer, too, each is copied alone and lies even.
 #[derive(Clone, Copy)]
 pub struct Machine {
-    pub stack: [i32; Machine::STACK],
     pub height: usize,
-    pub held: [i32; Machine::HELD],
+    pub stack: [i32; Machine::STACK],
     pub at: usize,
+    pub held: [i32; Machine::HELD],
     pub ticks: u32,
 }
 
@@ -57,10 +58,10 @@ impl Machine {
         ensures { (view result ≡ fresh) × (result.height ≡ 0) }
     {
         Machine {
-            stack: [0; Machine::STACK],
             height: 0,
-            held: [0; Machine::HELD],
+            stack: [0; Machine::STACK],
             at: 0,
+            held: [0; Machine::HELD],
             ticks: 0,
         }
     }
