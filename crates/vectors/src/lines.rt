@@ -38,6 +38,11 @@ impl Line {
         self.held == 0
     }
 
+    // Whether the line begins as a request on a text does.
+    pub(crate) fn is_on_text(&self) -> bool {
+        matches!(self.bytes(), Some([b'C' | b'E' | b'P', ..]))
+    }
+
     // The line's bytes, unless they were too many to keep.
     pub(crate) fn bytes(&self) -> Option<&[u8]> {
         self.bytes.get(..self.held)

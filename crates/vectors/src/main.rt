@@ -3,58 +3,70 @@
 
 mod answers;
 mod fields;
+mod input;
 mod lines;
 mod output;
 mod requests;
 
+use input::Input;
 use lines::Line;
 use output::Output;
+use requests::{Image, Memory};
+use rules::Limits;
 use std::io::Read;
 
-// How many bytes are read at once.
-const CHUNK: usize = 32768;
-
-fn answer_line<P: Print>(line: &mut Line, out: &mut Output<P>) {
+fn answer_image<P: Print>(line: &Line, out: &mut Output<P>) {
     match line.bytes() {
-        Some(bytes) => requests::answer(bytes, out),
+        Some(bytes) => requests::answer_image(bytes, out),
         None => out.put_error(),
     }
-    line.clear();
 }
 
-// What stands before the first end of a line belongs to the line that is being read; behind each end a new one begins.
-fn serve_bytes<P: Print>(bytes: &[u8], line: &mut Line, out: &mut Output<P>) {
-    let mut pieces = bytes.split(|byte| *byte == b'\n');
-    if let Some(first) = pieces.next() {
-        line.push_all(first);
-    }
-    for piece in pieces {
-        answer_line(line, out);
-        line.push_all(piece);
+fn answer<P: Print>(line: &Line, memory: &mut Memory, image: &mut Image, out: &mut Output<P>) {
+    if line.is_on_text() {
+        requests::answer_text(line.bytes().unwrap_or(&[]), memory, image, out);
+    } else {
+        answer_image(line, out);
     }
 }
 
-// Nothing says that input ends, and a proved loop has to: so reads are counted, up to a number that no run uses up. A read that fails ends the
-// input, too.
-fn serve<P: Print>(input: &mut impl Read, line: &mut Line, out: &mut Output<P>) {
-    let mut chunk = [0; CHUNK];
+// Lines are answered up to the first that begins as a request on a text does, which is left to be answered: whether there is one. Nothing says that
+// input ends, and a proved loop has to: so lines are counted, up to a number that no run uses up.
+fn serve_images<P: Print>(
+    input: &mut Input<impl Read>,
+    line: &mut Line,
+    out: &mut Output<P>,
+) -> bool {
     for _ in 0..u64::MAX {
-        let count = input.read(&mut chunk).unwrap_or(0);
-        if count == 0 {
+        if !input.read_line(line) {
+            return false;
+        }
+        if line.is_on_text() {
+            return true;
+        }
+        answer_image(line, out);
+    }
+    false
+}
+
+// From the first request on a text on there is working memory. What one request leaves there makes no difference to the next.
+fn serve_all<P: Print>(input: &mut Input<impl Read>, line: &mut Line, out: &mut Output<P>) {
+    let mut memory = [0; Limits::MEMORY_NUMBERS];
+    let mut image = [0; Limits::IMAGE];
+    for _ in 0..u64::MAX {
+        answer(line, &mut memory, &mut image, out);
+        if !input.read_line(line) {
             break;
         }
-        serve_bytes(&chunk[..count], line, out);
     }
 }
 
 fn main(rt: HostRuntime) {
-    let mut input = rt.reader();
+    let mut input = Input::new(rt.reader());
     let mut line = Line::new();
     let mut out = Output::new(rt);
-    serve(&mut input, &mut line, &mut out);
-    // The last line needs no end.
-    if !line.is_empty() {
-        answer_line(&mut line, &mut out);
+    if serve_images(&mut input, &mut line, &mut out) {
+        serve_all(&mut input, &mut line, &mut out);
     }
     out.flush();
 }
