@@ -3,7 +3,7 @@ use crate::lines::Line;
 use std::io::Read;
 
 // How many bytes are read at once.
-const CHUNK: usize = 32768;
+const CHUNK: usize = 28672;
 
 #[derive(Drop)]
 pub(crate) struct Input<R> {

@@ -49,7 +49,9 @@ fn serve_images<P: Print>(
     false
 }
 
-// From the first request on a text on there is working memory. What one request leaves there makes no difference to the next.
+// From the first request on a text on there is working memory. What one request leaves there makes no difference to the next. (It is no part of
+// `main`, so that a run without such requests needs no stack for it.)
+#[inline(never)]
 fn serve_all<P: Print>(input: &mut Input<impl Read>, line: &mut Line, out: &mut Output<P>) {
     let mut memory = [0; Limits::MEMORY_NUMBERS];
     let mut image = [0; Limits::IMAGE];

@@ -29,7 +29,9 @@ pub(crate) fn answer_text<P: Print>(
     }
 }
 
-// A line that is no request on an image has no answer here.
+// A line that is no request on an image has no answer here. (This and the next function stand apart, so that only one of them has its room on the
+// stack.)
+#[inline(never)]
 fn carry_out_image<P: Print>(line: &[u8], out: &mut Output<P>) -> Option<()> {
     let mut room = [0; BYTES];
     let mut table = [0; TABLE];
@@ -52,6 +54,7 @@ fn carry_out_image<P: Print>(line: &[u8], out: &mut Output<P>) -> Option<()> {
 }
 
 // A line that is no request on a text has no answer here.
+#[inline(never)]
 fn carry_out_text<P: Print>(
     line: &[u8],
     memory: &mut Memory,
