@@ -2,8 +2,8 @@
 use crate::lines::Line;
 use std::io::Read;
 
-// How many bytes are read at once.
-const CHUNK: usize = 28672;
+// How many bytes are read at once: with what the reader itself holds, no more of the stack than the output takes.
+const CHUNK: usize = 20480;
 
 #[derive(Drop)]
 pub(crate) struct Input<R> {
